@@ -4,10 +4,11 @@ use Rattle.std.specs.Prelude.{option_map}
 use Rattle.tok_core.specs.Forest.{Forest}
 use Rattle.tok_types.specs.Sees.{Sees}
 use Rattle.syn_parse.proofs.Failing.{fails_on}
+use Rattle.syn_parse.proofs.Premises.{given, given_on, under}
 use Rattle.syn_parse.specs.After.{after, take_after}
 use Rattle.syn_parse.specs.State.{State}
 use Rattle.syn_parse.specs.Takes.{Outcome, Taking, TakesAs, and_then, found}
-use Rattle.syn_parse.specs.Takings.{Keeps, Takings, told, told_filled}
+use Rattle.syn_parse.specs.Takings.{Keeps, Takings, stated, told}
 use Rattle.syn_parse.specs.TreesAhead.{Ahead, ahead}
 use Rattle.syn_parse.specs.declared.fault.Fault.{Fault}
 
@@ -33,8 +34,7 @@ pub value_fails : {P T : Type 0} (sees : Option (Forest → Bool)) (tokens : Tak
     (values : Takings T) (s m t : State) (p : P) (f : Fault) → Sees sees s.place true
     → Keeps tokens s (Ok p) m → Keeps values m (Err f) t
     → Keeps (after sees tokens values) s (Err f) t
-value_fails (Some sees) (told shape token x) (told form take y) s m t p f h k w =
-    value-fails shape form token take (λ a. sees a.trees) s m t p f h k w
-value_fails (Some sees) (told shape token x) (told_filled form take y) s m t p f h k w =
-    λ i. value-fails shape form token take (λ a. sees a.trees) s m t p f h k (w (k.1.0 i))
+value_fails (Some sees) (told shape token x) (stated alone form take y) s m t p f h k w =
+    under alone _ _ (λ i. value-fails shape form token take (λ a. sees a.trees) s m t p f h k
+    (given alone _ _ w (given_on alone _ _ k.1.0 i)))
 value_fails sees tokens values s m t p f h k w = tt

@@ -26,6 +26,7 @@ use Rattle.syn_parse.specs.TreesAhead.{Ahead, IsFilled, ahead, all_taken, only_t
 use Rattle.syn_parse.specs.Takes.{Agree, ErrorsAgree, FailsAt, IsAll, IsMissing, MemoryOr, Outcome}
 use Rattle.syn_parse.specs.Takes.{SaysAll, SaysFound, TakesAll, TakesAs, Taking, found, missing}
 use Rattle.syn_parse.proofs.GroupTakes.{leftover-trees}
+use Rattle.syn_parse.proofs.Shapes.{found_first, found_second}
 
 no-trees : (f : Forest) → has_trees f ≡ false → f ≡ no_trees
 no-trees no_trees h = refl
@@ -44,12 +45,6 @@ handed-in None None f e h = refl
 handed-in None (Some l) f e h =
     absurd (let k : true ≡ false = e ∙ ap (λ a. has_trees a.trees) h in cc)
 handed-in (Some n) l f e h = absurd (let k : Some n.span ≡ None = ap (λ a. a.unread) h in cc)
-
-found-second : {A : Type 0} {x y : A} {a b : Ahead} → found x a ≡ found y b → a ≡ b
-found-second e = cc
-
-found-first : {A : Type 0} {x y : A} {a b : Ahead} → found x a ≡ found y b → x ≡ y
-found-first e = cc
 
 -- a leftover's error is at the first tree that is unread
 refuses-at : (span : Span) (words : List ℕ) (e : Fault) → Refuses (message_at span words) e
@@ -115,7 +110,7 @@ module _ {T A : Type 0} (form : T → A) (take : Taking A) (f : Forest) (scope :
       → IfSome (option_or y.unread (first_tree_span y.trees)) (λ span. RefusesAt span e)
       → TakesAll form take f scope (Err e)
   left-refuses (Refused d) x y l r h other left = (
-    (λ z k. other (found-second (sym h ∙ k)), ap length r),
+    (λ z k. other (found_second (sym h ∙ k)), ap length r),
     λ i. subst (λ o. SaysAll f scope o (Refused d)) (sym h) left,
   )
   left-refuses (Memory d) x y l r h other left =
@@ -167,7 +162,7 @@ module _ {T A : Type 0} (form : T → A) (take : Taking A) (f : Forest) (scope :
   no-value (Memory d) x h k = tt
 
   agree-in : (x y : Result T Fault) → TakesAll form take f scope x → ValueOf y → Agree form x y
-  agree-in (Ok v) (Ok w) h k = found-first (sym h ∙ k)
+  agree-in (Ok v) (Ok w) h k = found_first (sym h ∙ k)
   agree-in (Ok v) (Err e) h k = no-value e (form v) h k
   agree-in (Err e) (Ok v) h k = no-value e (form v) k h.0
   agree-in (Err e) (Err d) h k = tt

@@ -1,20 +1,18 @@
 -- A group takes what is inside, and then what is after it.
 use Rattle.std.proofs.Common.{◌≡◌, ◌∙◌, sym, ap, subst, refl, arith, ◌<◌, ◌≤◌, Bool, true, false}
 use Rattle.std.proofs.Common.{not}
-use Rattle.std.proofs.Common.{Option, Some, None, Ok, Err, cond}
+use Rattle.std.proofs.Common.{Option, Some, None, Ok, Err}
 use Rattle.std.specs.Option.{option_or}
 use Rattle.std.specs.Prelude.{Result, IfSome, is_some, length, option_map}
-use Rattle.std.proofs.lemmas.Bool.{false≢true}
 use Rattle.tok_lexical.specs.declared.delimiter.Delimiter.{Delimiter}
-use Rattle.tok_lexical.specs.declared.delimiter.Delimiter.TheVariants as delimiter
 use Rattle.tok_leaves.specs.declared.span.DelimSpan.{DelimSpan}
 use Rattle.tok_leaves.specs.declared.span.Span.{Span}
 use Rattle.tok_leaves.specs.Spans.{closing_span, whole_span}
 use Rattle.tok_core.specs.Filled.{has_trees}
-use Rattle.tok_core.specs.Forest.{Forest, leaf, group, no_trees, tree}
+use Rattle.tok_core.specs.Forest.{Forest, no_trees, tree}
 use Rattle.tok_core.specs.Weight.{weight}
 use Rattle.tok_buffer.specs.Ahead.{Leftover, left_of, leftover}
-use Rattle.tok_buffer.specs.Entry.{Entered, enter, same_delimiter, EnteredWith}
+use Rattle.tok_buffer.specs.Entry.{Entered, enter, EnteredWith}
 use Rattle.tok_buffer.specs.InFront.{entered_ahead, first_group, first_tree_span}
 use Rattle.tok_buffer.specs.Place.{Place}
 use Rattle.tok_buffer.specs.Reached.{Reached}
@@ -31,12 +29,11 @@ use Rattle.syn_parse.specs.Reads.{Call}
 use Rattle.syn_parse.specs.State.{State, after_group, closed, content_of}
 use Rattle.syn_parse.specs.declared.fault.Fault.{Fault}
 use Rattle.syn_parse.specs.declared.fault.Fault.TheVariants.{Refused, Memory}
-use Rattle.syn_parse.specs.TreesAhead.{Ahead, IsFilled, after_content, ahead, scope_of}
+use Rattle.syn_parse.specs.TreesAhead.{IsFilled, after_content, ahead, scope_of}
 use Rattle.syn_parse.specs.TreesAhead.{unread_after}
-use Rattle.syn_parse.specs.Lighter.{group_weighs}
+use Rattle.syn_parse.specs.Lighter.{group_is_first, group_weighs}
 use Rattle.syn_parse.specs.Grouped.{grouped}
-use Rattle.syn_parse.specs.Takings.{Keeps, Takings, told, told_filled, untold}
-use Rattle.syn_parse.specs.Takes.{Finds, TakeWithinBy, TakesBy, Within}
+use Rattle.syn_parse.specs.Takings.{Keeps, Takings, stated, untold}
 use Rattle.syn_parse.specs.Positions.{Missing, missing_inside, scope_trees}
 use Rattle.syn_parse.specs.Takes.{EntersAhead, IsMissing, MemoryOr, Outcome, Says, SaysFound}
 use Rattle.syn_parse.specs.Takes.{TakeWithin}
@@ -45,6 +42,7 @@ use Rattle.syn_parse.specs.Takes.{after_inside, found, inside_first, missing, ta
 use Rattle.syn_parse.proofs.Scopes.{one_scope}
 use Rattle.syn_parse.proofs.Failing.{says_memory}
 use Rattle.syn_parse.proofs.Positions.{after_trees, content_at}
+use Rattle.syn_parse.proofs.Premises.{given, given_on, under}
 use Rattle.syn_parse.proofs.Told.{here_told}
 
 -- a leftover is there where a visible tree is
@@ -231,89 +229,9 @@ pub group_keeps : {T : Type 0} (takes : Takings T) (calls : Call T) (d : Delimit
     → RunsWithin calls (enter d s.place) (refused_at s (delimiter_words d)) s r t
     → Keeps (grouped d takes) s r t
 group_keeps untold calls d v s t r each w = tt
-group_keeps (told form take weighs) calls d v s t r each w =
-    group_told form take calls d v s t (λ x y z l h. each x y z h) r w
-group_keeps (told_filled form take weighs) calls d v s t r each w =
-    λ i. group_told form take calls d v s t (λ x y z l h. each x y z h (l.1 i)) r w
-
-module _ {T A : Type 0} (Is : T → A → Type 0) (inner : Taking A) (calls : Call T)
-    (d : Delimiter) (visible : IsVisibleDelimiter d) (s t : State)
-    (each : TakeWithinBy s Is inner calls) where
-  is-first-by : (x : Option Entered) → enter d s.place ≡ x
-      → take_group d inner (ahead s) ≡ inside_first d inner (ahead s) (option_map entered_ahead x)
-  unfolding take_group
-  is-first-by x h =
-      ap (inside_first d inner (ahead s))
-      (sym ((ahead_tells s.place).enters d visible) ∙ ap (option_map entered_ahead) h)
-
-  inside-missing-by : (e : EnteredWith Forest) (o : Outcome A) → IsMissing o
-      → IsMissing (after_inside (ahead s) e o)
-  inside-missing-by e (found v b) h = h
-  inside-missing-by e (missing m) h = h
-
-  ran-by : (e : Entered) (returned : Result T Fault) (left : State)
-      (r : Result (DelimSpan × T) Fault)
-      → enter d s.place ≡ Some e → TakesBy Is inner (content_of e) returned left
-      → SpanWith e.span returned r → t ≡ closed left (after_group e s)
-      → TakesBy (Within Is) (take_group d inner) s r t
-  ran-by e (Ok v) left (Ok found_) h i w k = (
-    subst (Finds (Within Is) found_ (ahead t)) (sym (is-first-by (Some e) h)) (both _ i.0),
-    (
-      λ j. subst (λ u. IsFilled u.place) (sym k) (both-filled d visible s.place e h j).1,
-      ap (λ u. scope_of u.place) k ∙ after-scope d s.place e h,
-      subst (λ u. remaining u.place ≤ remaining s.place) (sym k) (after-remains d s.place e h),
-      ap (λ u. scope_trees u.place) k ∙ after_trees d visible s.place e h,
-      ap (λ u. u.scope_span) k,
-    ),
-  ) where
-    both : (o : Outcome A) → Finds Is v (ahead left) o
-        → Finds (Within Is) found_ (ahead t) (after_inside (ahead s) (entered_ahead e) o)
-    both (missing m) f = f
-    both (found x c) f = (
-      (sym (span-is found_.0 e.span w.0), subst (λ u. Is u x) (sym w.1) f.0),
-      ap (λ (y : Ahead). record { trees = erased_ahead e.after; unread = unread_after (ahead s) y })
-          f.1
-          ∙ sym (ap ahead k ∙ after-closed left s e),
-    )
-  ran-by e (Ok v) left (Err g) h i w k = absurd w
-  ran-by e (Err f) left (Ok found_) h i w k = absurd w
-  ran-by e (Err f) left (Err g) h i w k =
-      subst (λ x. TakesBy (Within Is) (take_group d inner) s (Err x) t) (sym w) (
-        memory-or f _ _
-            (λ n. subst IsMissing (sym (is-first-by (Some e) h))
-            (inside-missing-by (entered_ahead e) _ n)) i.0,
-        λ j.
-            subst (λ o. SaysFound (scope_trees s.place) s.scope_span o f)
-            (sym (is-first-by (Some e) h))
-            (inside_says d visible s e h j _ f (i.1 (both-filled d visible s.place e h j).0)),
-      )
-
-  refused-by : (f : Fault) → enter d s.place ≡ None → Refuses (refused_at s (delimiter_words d)) f
-      → TakesBy (Within Is) (take_group d inner) s (Err f) t
-  refused-by (Refused e) h r = (
-    (subst IsMissing (sym (is-first-by None h)) tt, ap length r),
-    λ i.
-        subst (λ o. SaysFound (scope_trees s.place) s.scope_span o (Refused e))
-        (sym (is-first-by None h)) (here_told (delimiter_words d) s (Refused e) r i),
-  )
-  refused-by (Memory e) h r =
-      (tt, λ i. says_memory (scope_trees s.place) s.scope_span (take_group d inner (ahead s)) e)
-
-  within-by : (x : Option Entered) (r : Result (DelimSpan × T) Fault) → enter d s.place ≡ x
-      → RunsWithin calls x (refused_at s (delimiter_words d)) s r t
-      → TakesBy (Within Is) (take_group d inner) s r t
-  within-by None (Ok v) h w = absurd w.0
-  within-by None (Err f) h w = refused-by f h w.0
-  within-by (Some e) r h w =
-      ran-by e w.0 w.1 r h (each (content_of e) w.0 w.1 (
-        content-lighter d visible s.place e h,
-        λ i. (both-filled d visible s.place e h i).0,
-      ) w.2) w.3 w.4
-
-  pub group_told_by : (r : Result (DelimSpan × T) Fault)
-      → RunsWithin calls (enter d s.place) (refused_at s (delimiter_words d)) s r t
-      → TakesBy (Within Is) (take_group d inner) s r t
-  group_told_by r w = within-by (enter d s.place) r refl w
+group_keeps (stated alone form take x) calls d v s t r each w =
+    under alone _ _ (λ i. group_told form take calls d v s t
+    (λ x y z l h. given alone _ _ (each x y z h) (given_on alone _ _ l.1 i)) r w)
 
 -- a content is closed
 pub closed_ahead : (content s : State)
@@ -323,28 +241,6 @@ closed_ahead content s =
     (unread-or s.noted content.noted (leftover content.place)
     ∙ ap (λ b. option_or (left_span s.noted) (option_or (left_span content.noted) b))
     (ahead_tells content.place).leftovers)
-
--- the delimiter of a group that is entered
-same-is : (d c : Delimiter) → same_delimiter d c ≡ true → c ≡ d
-same-is delimiter.Parenthesis delimiter.Parenthesis h = refl
-same-is delimiter.Brace delimiter.Brace h = refl
-same-is delimiter.Bracket delimiter.Bracket h = refl
-same-is delimiter.None delimiter.None h = refl
-same-is d c h = absurd (false≢true h)
-
-first-delimiter : (d : Delimiter) (f : Forest) (e : EnteredWith Forest) → first_group d f ≡ Some e
-    → e.delimiter ≡ d
-first-delimiter d no_trees e h = absurd (cc)
-first-delimiter d (tree (leaf l) f) e h = absurd (cc)
-first-delimiter d (tree (group c inside span) f) e h = go (same_delimiter d c) refl h where
-  go : (b : Bool) → same_delimiter d c ≡ b
-      → cond b (Some (record { delimiter = c; span = span; content = inside; after = f })) None
-      ≡ Some e
-      → e.delimiter ≡ d
-  go true k m =
-      let x : record { delimiter = c; span = span; content = inside; after = f } ≡ e = cc in
-      subst (λ (y : EnteredWith Forest). y.delimiter ≡ d) x (same-is d c k)
-  go false k m = absurd (cc)
 
 -- a group is entered
 module _ {T : Type 0} (span_of : T → DelimSpan) (content : T → State) (d : Delimiter)
@@ -362,7 +258,7 @@ module _ {T : Type 0} (span_of : T → DelimSpan) (content : T → State) (d : D
           span = e.span;
           content = erased_ahead e.content;
           after = erased_ahead e.after;
-        })) (first-delimiter d (erased_ahead s.place) (entered_ahead e) (first e h))
+        })) (group_is_first d (erased_ahead s.place) (entered_ahead e) (first e h)).1
         ∙ ap (λ x. Some (record {
           delimiter = d;
           span = x;

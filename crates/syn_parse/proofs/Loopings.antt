@@ -1,6 +1,6 @@
 -- A loop's calls, turn by turn.
-use Rattle.std.proofs.Common.{◌≡◌, ◌≤◌, ◌-◌, sym, ap, subst, arith, ℕ, ◌+◌, List, [], ◌∷◌, ◌++◌}
-use Rattle.std.proofs.Common.{Bool, Ok, Err, Option, length}
+use Rattle.std.proofs.Common.{◌≡◌, ◌≤◌, ◌-◌, sym, ap, subst, arith, ℕ, ◌+◌, List, [], ◌∷◌}
+use Rattle.std.proofs.Common.{◌++◌, Bool, true, false, Ok, Err, Option, length}
 use Rattle.std.proofs.lemmas.List.{length-append}
 use Rattle.std.specs.Global.{Vec}
 use Rattle.std.specs.Prelude.{Result}
@@ -8,69 +8,92 @@ use Rattle.tok_core.specs.Weight.{weight}
 use Rattle.tok_buffer.specs.Place.{Place}
 use Rattle.tok_buffer.specs.Progress.{remaining}
 use Rattle.tok_buffer.specs.View.{erased_ahead}
-use Rattle.syn_parse.proofs.Repeats.{TurnsOf, turns-start}
+use Rattle.syn_parse.proofs.Repeats.{Tests, TurnsOf, turns-ended, turns-failed, turns-more}
+use Rattle.syn_parse.proofs.Repeats.{turns-start, turns-stuck}
 use Rattle.syn_parse.specs.Faults.{IsMemory, Refuses}
-use Rattle.syn_parse.specs.Loops.{Loops, Parsed, lost, nothing_taken, none_yet, one_more}
-use Rattle.syn_parse.specs.Loops.{refused, stuck}
+use Rattle.syn_parse.specs.Loops.{Loops, Parsed, ended, lost, nothing_taken, none_yet, one_more}
+use Rattle.syn_parse.specs.Loops.{refused, stuck, tokens_left}
+use Rattle.syn_parse.specs.Many.{many_of}
 use Rattle.syn_parse.specs.Reads.{Call, Does}
 use Rattle.syn_parse.specs.State.{State}
-use Rattle.syn_parse.specs.Takings.{Takings}
+use Rattle.syn_parse.specs.Takings.{Keeps, Takings}
 use Rattle.syn_parse.specs.TreesAhead.{Ahead}
 use Rattle.syn_parse.specs.declared.fault.Fault.{Fault}
 
-module _ {T : Type 0} (goes_on ends : Place → Type 0) (stops : ℕ → Place → Type 0)
-    (parses : Call T) (s : State) where
-  pub parsed-more : (vs : List T) (m : State) (v : T) (t : State) → Parsed goes_on parses s vs m
-      → goes_on m.place → Does parses m (Ok v) t → (ws : List T) → ws ≡ vs ++ v ∷ []
-      → Parsed goes_on parses s ws t
-  unfolding Does
-  parsed-more vs m v t h i j ws e =
-      subst (λ us. Parsed goes_on parses s us t) (sym e) (one_more vs m v t h i j)
-
-  pub loop-refused : (vs : List T) (m : State) (f : Fault) (t : State)
-      → Parsed goes_on parses s vs m → goes_on m.place → Does parses m (Err f) t
-      → (r : Result (Vec T) Fault) → r ≡ Err f → Loops goes_on ends stops parses s r t
-  unfolding Does
-  loop-refused vs m f t h i j r e =
-      subst (λ x. Loops goes_on ends stops parses s x t) (sym e) (refused vs m f t h i j)
-
-  pub loop-lost : (vs : List T) (m : State) (v : T) (f : Fault) (t : State)
-      → Parsed goes_on parses s vs m → goes_on m.place → Does parses m (Ok v) t → IsMemory f
-      → (r : Result (Vec T) Fault) → r ≡ Err f → Loops goes_on ends stops parses s r t
-  unfolding Does
-  loop-lost vs m v f t h i j k r e =
-      subst (λ x. Loops goes_on ends stops parses s x t) (sym e)
-      (lost vs v f t (one_more vs m v t h i j) k)
-
-  pub loop-stuck : (vs : List T) (m : State) (v : T) (f : Fault) (t : State)
-      → Parsed goes_on parses s vs m → goes_on m.place → Does parses m (Ok v) t
-      → stops (length vs + 1) t.place → Refuses (nothing_taken t) f
-      → (r : Result (Vec T) Fault) → r ≡ Err f → Loops goes_on ends stops parses s r t
-  unfolding Does
-  loop-stuck vs m v f t h i j z k r e =
-      subst (λ x. Loops goes_on ends stops parses s x t) (sym e)
-      (stuck (vs ++ v ∷ []) f t (one_more vs m v t h i j)
-      (subst (λ n. stops n t.place) (sym (length-append vs (v ∷ []))) z) k)
-
--- a loop's calls, as one word
-pub loop-does : {T : Type 0} (calls : Call (Vec T)) (s t : State) (r : Result (Vec T) Fault)
-    → calls s r t → Does calls s r t
-unfolding Does
-loop-does calls s t r h = h
+-- values that were parsed and taken, the stream after them, and how many turns are left
+pub record Turned {T : Type 0} (goes_on ends : Place → Type 0) (parses : Call T)
+    (test : Option (Ahead → Bool)) (takes : Takings T) (s : State) (vs : List T) (t : State)
+    (n : ℕ) : Type 0 where
+  pub taken : TurnsOf test takes s vs t n
+  pub parsed : Parsed goes_on parses s vs t
+  pub count : length vs + n ≡ tokens_left s.place
 
 -- before the first value there are as many turns as tokens are left
-pub turns-begin : {T : Type 0} (test : Option (Ahead → Bool)) (takes : Takings T) (s : State)
-    (p : Place) (n : ℕ) (vs : List T) → p ≡ s.place → weight (erased_ahead p) ≤ n → vs ≡ []
-    → TurnsOf test takes s vs s n
-turns-begin test takes s p n vs e h none =
-    subst (λ xs. TurnsOf test takes s xs s n) (sym none)
-    (turns-start test takes s n (omega (arith, h, ap (λ q. weight (erased_ahead q)) e)))
+pub turned-none : {T : Type 0} (goes_on ends : Place → Type 0) (parses : Call T)
+    (test : Option (Ahead → Bool)) (takes : Takings T) (s : State) (p : Place) (n : ℕ)
+    (vs : List T) → p ≡ s.place → weight (erased_ahead p) ≤ n → n ≡ remaining p - 1 → vs ≡ []
+    → Turned goes_on ends parses test takes s vs s n
+turned-none goes_on ends parses test takes s p n vs e h k none =
+    subst (λ xs. Turned goes_on ends parses test takes s xs s n) (sym none) (record {
+      taken = turns-start test takes s n (omega (arith, h, ap (λ q. weight (erased_ahead q)) e));
+      parsed = none_yet;
+      count = omega (arith, k, ap remaining e);
+    })
 
-pub parsed-none : {T : Type 0} (goes_on : Place → Type 0) (parses : Call T) (s : State)
-    (vs : List T) → vs ≡ [] → Parsed goes_on parses s vs s
-parsed-none goes_on parses s vs none =
-    subst (λ xs. Parsed goes_on parses s xs s) (sym none) none_yet
+-- a result is a call of the loop, and keeps what is stated
+abbrev Returns : {T : Type 0} → (goes_on ends : Place → Type 0) → Call T → Option (Ahead → Bool)
+    → Takings T → Call (Vec T)
+Returns goes_on ends parses test takes s r t =
+    Does (Loops goes_on ends parses) s r t × Keeps (many_of test takes) s r t
 
-pub count-none : {T : Type 0} (p q : Place) (n : ℕ) (vs : List T) → p ≡ q → vs ≡ []
-    → n ≡ remaining p - 1 → length vs + n ≡ remaining q - 1
-count-none p q n vs e none h = omega (arith, ap length none, h, ap remaining e)
+pub loop-ended : {T : Type 0} {goes_on ends : Place → Type 0} {parses : Call T}
+    {test : Option (Ahead → Bool)} {takes : Takings T} {s t : State} {n : ℕ} (vs : Vec T)
+    → Turned goes_on ends parses test takes s vs.items t n → ends t.place → Tests test takes t false
+    → Returns goes_on ends parses test takes s (Ok vs) t
+unfolding Does
+loop-ended {test} {takes} {s} {t} {n} vs h e w = (
+  ended vs t h.parsed e (omega (arith, h.count)),
+  turns-ended test takes s t vs n h.taken w,
+)
+
+-- where the loop goes on
+module _ {T : Type 0} {goes_on ends : Place → Type 0} {parses : Call T}
+    {test : Option (Ahead → Bool)} {takes : Takings T} {s t : State} {vs : List T} {n : ℕ}
+    (h : Turned goes_on ends parses test takes s vs t n) (i : goes_on t.place) where
+  more : (v : T) (u : State) → Does parses t (Ok v) u → Parsed goes_on parses s (vs ++ v ∷ []) u
+  unfolding Does
+  more v u j = one_more vs t v u h.parsed i j
+
+  pub turned-more : (v : T) (u : State) (m : ℕ) → Tests test takes t true
+      → Does parses t (Ok v) u → Keeps takes t (Ok v) u → n ≡ m + 1 → (ws : List T)
+      → ws ≡ vs ++ v ∷ [] → Turned goes_on ends parses test takes s ws u m
+  turned-more v u m w j k l ws e = record {
+    taken = turns-more test takes s t u vs n m v h.taken w k l ws e;
+    parsed = subst (λ xs. Parsed goes_on parses s xs u) (sym e) (more v u j);
+    count = omega (arith, h.count, l, ap length e, length-append vs (v ∷ []));
+  }
+
+  pub loop-refused : (f : Fault) (u : State) → Tests test takes t true → Does parses t (Err f) u
+      → Keeps takes t (Err f) u → (r : Result (Vec T) Fault) → r ≡ Err f
+      → Returns goes_on ends parses test takes s r u
+  unfolding Does
+  loop-refused f u w j k r e =
+      subst (λ x. Returns goes_on ends parses test takes s x u) (sym e)
+      (refused vs t f u h.parsed i j, turns-failed test takes s t u vs n f h.taken w k)
+
+  pub loop-lost : (v : T) (u : State) (f : Fault) → Does parses t (Ok v) u → IsMemory f
+      → (r : Result (Vec T) Fault) → r ≡ Err f → Does (Loops goes_on ends parses) s r u
+  unfolding Does
+  loop-lost v u f j k r e =
+      subst (λ x. Loops goes_on ends parses s x u) (sym e) (lost vs v f u (more v u j) k)
+
+  pub loop-stuck : (v : T) (u : State) (f : Fault) → Does parses t (Ok v) u
+      → Keeps takes t (Ok v) u → n ≡ 0 → Refuses (nothing_taken u) f
+      → (r : Result (Vec T) Fault) → r ≡ Err f → Returns goes_on ends parses test takes s r u
+  unfolding Does
+  loop-stuck v u f j w z k r e =
+      subst (λ x. Returns goes_on ends parses test takes s x u) (sym e) (
+        stuck (vs ++ v ∷ []) f u (more v u j)
+            (omega (arith, length-append vs (v ∷ []), h.count, z)) k,
+        turns-stuck test takes s t u vs n v f h.taken w z,
+      )

@@ -6,10 +6,11 @@ use Rattle.tok_core.specs.Forest.{Forest}
 use Rattle.tok_buffer.specs.View.{erased_ahead}
 use Rattle.tok_types.specs.Sees.{Sees}
 use Rattle.syn_parse.proofs.Failing.{fails_on, stays_here}
+use Rattle.syn_parse.proofs.Premises.{given, under}
 use Rattle.syn_parse.specs.Optional.{optional, take_optional}
 use Rattle.syn_parse.specs.State.{State}
 use Rattle.syn_parse.specs.Takes.{Taking, TakesAs, and_then, found}
-use Rattle.syn_parse.specs.Takings.{Keeps, Takings, told, told_filled, untold}
+use Rattle.syn_parse.specs.Takings.{Keeps, Takings, stated}
 use Rattle.syn_parse.specs.TreesAhead.{Ahead, ahead}
 use Rattle.syn_parse.specs.declared.fault.Fault.{Fault}
 
@@ -50,24 +51,19 @@ pub some_keeps : {T : Type 0} (sees : Option (Forest → Bool)) (takes : Takings
     (v : T)
     → Sees sees s.place true → Keeps takes s (Ok v) t
     → Keeps (optional sees takes) s (Ok (Some v)) t
-some_keeps None takes s t v h k = tt
-some_keeps (Some test) untold s t v h k = tt
-some_keeps (Some test) (told form take w) s t v h k = some-taken form take test s t v h k
-some_keeps (Some test) (told_filled form take w) s t v h k =
-    λ i. some-taken form take test s t v h (k i)
+some_keeps (Some test) (stated alone form take w) s t v h k =
+    under alone _ _ (λ i. some-taken form take test s t v h (given alone _ _ k i))
+some_keeps sees takes s t v h k = tt
 
 pub none_keeps : {T : Type 0} (sees : Option (Forest → Bool)) (takes : Takings T) (s : State)
     → Sees sees s.place false → Keeps (optional sees takes) s (Ok None) s
-none_keeps None takes s h = tt
-none_keeps (Some test) untold s h = tt
-none_keeps (Some test) (told form take w) s h = none-taken form take test s s h
-none_keeps (Some test) (told_filled form take w) s h = λ i. none-taken form take test s s h
+none_keeps (Some test) (stated alone form take w) s h =
+    under alone _ _ (λ i. none-taken form take test s s h)
+none_keeps sees takes s h = tt
 
 pub error_keeps : {T : Type 0} (sees : Option (Forest → Bool)) (takes : Takings T) (s t : State)
     (f : Fault)
     → Sees sees s.place true → Keeps takes s (Err f) t → Keeps (optional sees takes) s (Err f) t
-error_keeps None takes s t f h k = tt
-error_keeps (Some test) untold s t f h k = tt
-error_keeps (Some test) (told form take w) s t f h k = error-taken form take test s t f h k
-error_keeps (Some test) (told_filled form take w) s t f h k =
-    λ i. error-taken form take test s t f h (k i)
+error_keeps (Some test) (stated alone form take w) s t f h k =
+    under alone _ _ (λ i. error-taken form take test s t f h (given alone _ _ k i))
+error_keeps sees takes s t f h k = tt

@@ -25,25 +25,12 @@ use Rattle.tok_types.specs.Texts.{in_backquotes}
 use Rattle.tok_buffer.proofs.View.Readings.{of_keyword}
 use Rattle.tok_buffer.proofs.View.Tells.{tells}
 use Rattle.tok_types.proofs.Seen.{found_as}
-use Rattle.syn_parse.specs.ErrorWords.{span_in}
-use Rattle.syn_parse.specs.Owned.{is_word, own_first, own_word, take_own}
-use Rattle.syn_parse.specs.Parses.{WordParses}
-use Rattle.syn_parse.specs.State.{State}
-use Rattle.syn_parse.specs.Takes.{TakesAs}
-use Rattle.syn_parse.specs.declared.fault.Fault.{Fault}
-use Rattle.syn_parse.proofs.Told.{word_told}
+use Rattle.syn_parse.specs.Owned.{is_word, own_first, own_word}
 
 pub own_seen : (text : List ℕ) (p : Place) (b : Bool) → PeeksFor (read_keyword text) p b
     → b ≡ own_first text (erased_ahead p)
 unfolding own_first
 own_seen text p b h = h ∙ found_as _ _ _ (tells (of_keyword text) p)
-
-pub own_told : {T : Type 0} (span_of : T
-    → Span) (text : List ℕ) (s : State) (r : Result T Fault) (t : State)
-    → WordParses span_of text s r t → TakesAs span_of (take_own text) s r t
-unfolding take_own
-own_told span_of text s r t h =
-    word_told span_of span_of span_in text (λ v ts m. sym (ap span_in m)) s r t h
 
 -- a text is an identifier or not
 is_word_decides : (t : List ℕ) → (IsIdentifier t × (is_word t ≡ true))

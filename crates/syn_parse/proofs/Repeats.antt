@@ -9,12 +9,12 @@ use Rattle.tok_core.specs.Forest.{Forest}
 use Rattle.tok_core.specs.Weight.{weight}
 use Rattle.tok_types.specs.Sees.{Sees}
 use Rattle.syn_parse.proofs.Failing.{fails_on, stays_along, stays_here}
+use Rattle.syn_parse.proofs.Premises.{given, given_on, premise, under}
 use Rattle.syn_parse.specs.Many.{many_again, many_of, take_many, vec_form, where_filled}
 use Rattle.syn_parse.specs.Positions.{Missing}
 use Rattle.syn_parse.specs.State.{State}
 use Rattle.syn_parse.specs.Takes.{Outcome, Stays, Taking, TakesAs, and_then, found, missing}
-use Rattle.syn_parse.specs.Takings.{Keeps, Lowers, Takings, lower, lighter, told, told_filled}
-use Rattle.syn_parse.specs.Takings.{untold, unweighed}
+use Rattle.syn_parse.specs.Takings.{Keeps, Lowers, Takings, Under, lower, stated, untold}
 use Rattle.syn_parse.specs.TreesAhead.{Ahead, IsFilled, ahead, is_spent}
 use Rattle.syn_parse.specs.declared.fault.Fault.{Fault}
 
@@ -119,15 +119,14 @@ module _ {A : Type 0} (test : Ahead → Bool) (take : Taking A) (less : Lowers t
 -- the same for each kind of statement
 abbrev pub TurnsOf : {T : Type 0} → Option (Ahead → Bool) → Takings T → State → List T → State → ℕ
     → Type 0
-TurnsOf (Some test) (told form take (lower less)) s vs t n = Turns test take less form s vs t n
-TurnsOf (Some test) (told_filled form take (lower less)) s vs t n =
-    IsFilled s.place → Turns test take less form s vs t n
+TurnsOf (Some test) (stated alone form take (lower less)) s vs t n =
+    Under alone (IsFilled s.place) (Turns test take less form s vs t n)
 TurnsOf test takes s vs t n = Unit {0}
 
 -- what a test finds at a stream
 abbrev pub Tests : {T : Type 0} → Option (Ahead → Bool) → Takings T → State → Bool → Type 0
-Tests (Some test) (told form take (lower less)) s b = b ≡ test (ahead s)
-Tests (Some test) (told_filled form take (lower less)) s b = IsFilled s.place → b ≡ test (ahead s)
+Tests (Some test) (stated alone form take (lower less)) s b =
+    Under alone (IsFilled s.place) (b ≡ test (ahead s))
 Tests test takes s b = Unit {0}
 
 not-not : (b c : Bool) → not b ≡ c → b ≡ not c
@@ -136,73 +135,66 @@ not-not false c e = ap not e
 
 pub seen-tests : {T : Type 0} (sees : Option (Forest → Bool)) (takes : Takings T) (s : State)
     (b : Bool) → Sees sees s.place b → Tests (option_map (λ test a. test a.trees) sees) takes s b
-seen-tests (Some sees) (told form take (lower less)) s b h = h
-seen-tests (Some sees) (told_filled form take (lower less)) s b h = λ i. h
+seen-tests (Some sees) (stated alone form take (lower less)) s b h = under alone _ _ (λ i. h)
 seen-tests sees takes s b h = tt
 
 -- a stream whose end is not here has a visible tree left
 pub left-tests : {T : Type 0} (takes : Takings T) (s : State) (b : Bool)
     → (IsFilled s.place → not b ≡ is_spent (ahead s))
     → Tests (Some (λ a. not (is_spent a))) (where_filled takes) s b
-left-tests untold s b h = tt
-left-tests (told form take unweighed) s b h = tt
-left-tests (told form take (lighter l)) s b h = tt
-left-tests (told form take (lower l)) s b h = λ i. not-not b _ (h i)
-left-tests (told_filled form take unweighed) s b h = tt
-left-tests (told_filled form take (lighter l)) s b h = tt
-left-tests (told_filled form take (lower l)) s b h = λ i. not-not b _ (h i)
+left-tests (stated alone form take (lower less)) s b h = λ i. not-not b _ (h i)
+left-tests takes s b h = tt
 
 pub filled-keeps : {T : Type 0} (takes : Takings T) (s t : State) (r : Result T Fault)
     → Keeps takes s r t → Keeps (where_filled takes) s r t
 filled-keeps untold s t r h = tt
-filled-keeps (told form take w) s t r h = λ i. h
-filled-keeps (told_filled form take w) s t r h = h
+filled-keeps (stated alone form take w) s t r h = λ i. given alone _ _ h (premise alone _ i)
 
 pub turns-start : {T : Type 0} (test : Option (Ahead → Bool)) (takes : Takings T) (s : State)
     (n : ℕ) → weight (ahead s).trees ≤ n → TurnsOf test takes s [] s n
-turns-start (Some test) (told form take (lower less)) s n h = start test take less form s n h
-turns-start (Some test) (told_filled form take (lower less)) s n h =
-    λ i. start test take less form s n h
+turns-start (Some test) (stated alone form take (lower less)) s n h =
+    under alone _ _ (λ i. start test take less form s n h)
 turns-start test takes s n h = tt
 
 pub turns-more : {T : Type 0} (test : Option (Ahead → Bool)) (takes : Takings T) (s t u : State)
     (vs : List T) (n m : ℕ) (v : T) → TurnsOf test takes s vs t n → Tests test takes t true
     → Keeps takes t (Ok v) u → n ≡ m + 1 → (ws : List T) → ws ≡ vs ++ v ∷ []
     → TurnsOf test takes s ws u m
-turns-more (Some test) (told form take (lower less)) s t u vs n m v so e w k ws h =
+turns-more (Some test) (stated alone form take (lower less)) s t u vs n m v so e w k ws h =
+    under alone _ _ (λ i.
+    let now = given alone _ _ so i in
+    let j = given_on alone _ _ now.stays.0 i in
     subst (λ xs. Turns test take less form s xs u m) (sym h)
-    (turn test take less form s t u vs n m v so e w k)
-turns-more (Some test) (told_filled form take (lower less)) s t u vs n m v so e w k ws h =
-    λ i.
-    let j = (so i).stays.0 i in
-    subst (λ xs. Turns test take less form s xs u m) (sym h)
-    (turn test take less form s t u vs n m v (so i) (e j) (w j) k)
+    (turn test take less form s t u vs n m v now (given alone _ _ e j) (given alone _ _ w j) k))
 turns-more test takes s t u vs n m v so e w k ws h = tt
 
 pub turns-ended : {T : Type 0} (test : Option (Ahead → Bool)) (takes : Takings T) (s t : State)
     (vs : Vec T) (n : ℕ) → TurnsOf test takes s vs.items t n → Tests test takes t false
     → Keeps (many_of test takes) s (Ok vs) t
-turns-ended (Some test) (told form take (lower less)) s t vs n so e =
-    ended test take less form s t vs n so e
-turns-ended (Some test) (told_filled form take (lower less)) s t vs n so e =
-    λ i. ended test take less form s t vs n (so i) (e ((so i).stays.0 i))
+turns-ended (Some test) (stated alone form take (lower less)) s t vs n so e =
+    under alone _ _ (λ i.
+    let now = given alone _ _ so i in
+    ended test take less form s t vs n now
+    (given alone _ _ e (given_on alone _ _ now.stays.0 i)))
 turns-ended test takes s t vs n so e = tt
 
 pub turns-failed : {T : Type 0} (test : Option (Ahead → Bool)) (takes : Takings T) (s t u : State)
     (vs : List T) (n : ℕ) (f : Fault) → TurnsOf test takes s vs t n → Tests test takes t true
     → Keeps takes t (Err f) u → Keeps (many_of test takes) s (Err f) u
-turns-failed (Some test) (told form take (lower less)) s t u vs n f so e w =
-    failed test take less form s t u vs n f so e w
-turns-failed (Some test) (told_filled form take (lower less)) s t u vs n f so e w =
-    λ i. let j = (so i).stays.0 i in failed test take less form s t u vs n f (so i) (e j) (w j)
+turns-failed (Some test) (stated alone form take (lower less)) s t u vs n f so e w =
+    under alone _ _ (λ i.
+    let now = given alone _ _ so i in
+    let j = given_on alone _ _ now.stays.0 i in
+    failed test take less form s t u vs n f now (given alone _ _ e j) (given alone _ _ w j))
 turns-failed test takes s t u vs n f so e w = tt
 
 -- a value that takes something leaves a turn for the next one
 pub turns-stuck : {T : Type 0} (test : Option (Ahead → Bool)) (takes : Takings T) (s t u : State)
     (vs : List T) (n : ℕ) (v : T) (f : Fault) → TurnsOf test takes s vs t n
     → Keeps takes t (Ok v) u → n ≡ 0 → Keeps (many_of test takes) s (Err f) u
-turns-stuck (Some test) (told form take (lower less)) s t u vs n v f so w k =
-    absurd (too-many test take less form s t u vs n v so w k)
-turns-stuck (Some test) (told_filled form take (lower less)) s t u vs n v f so w k =
-    λ i. absurd (too-many test take less form s t u vs n v (so i) (w ((so i).stays.0 i)) k)
+turns-stuck (Some test) (stated alone form take (lower less)) s t u vs n v f so w k =
+    under alone _ _ (λ i.
+    let now = given alone _ _ so i in
+    absurd (too-many test take less form s t u vs n v now
+    (given alone _ _ w (given_on alone _ _ now.stays.0 i)) k))
 turns-stuck test takes s t u vs n v f so w k = tt

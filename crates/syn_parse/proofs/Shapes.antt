@@ -7,11 +7,11 @@ use Rattle.std.proofs.Common.{bytes_eq}
 use Rattle.std.proofs.lemmas.Bool.{and_parts, false≢true}
 use Rattle.std.proofs.lemmas.Slice.Eq.{bytes_eq-Decides}
 use Rattle.std.specs.Option.{option_or}
-use Rattle.std.specs.Prelude.{codes}
 use Rattle.tok_lexical.specs.declared.delimiter.Delimiter.{Delimiter}
 use Rattle.tok_lexical.specs.declared.delimiter.Delimiter.TheVariants as delimiter
 use Rattle.tok_leaves.specs.declared.ident.Ident.{Ident}
 use Rattle.tok_leaves.specs.declared.lifetime.Lifetime.{Lifetime}
+use Rattle.tok_leaves.specs.declared.literal.Literal.{Literal}
 use Rattle.tok_leaves.specs.declared.punct.Punct.{Punct}
 use Rattle.tok_leaves.specs.declared.punct.Spacing.{Spacing}
 use Rattle.tok_leaves.specs.declared.punct.Spacing.TheVariants.{Alone, Joint}
@@ -32,18 +32,16 @@ use Rattle.tok_types.specs.Texts.{accept_as_ident, keyword_text, punctuation_wor
 use Rattle.tok_types.specs.declared.punctuation.Punctuation.{Punctuation}
 use Rattle.syn_parse.specs.Parses.{AreSpans, IsIdent, IsLifetime, IsLiteral, IsPunct, IsSpanOf}
 use Rattle.syn_parse.specs.Parses.{accept_as_lifetime}
-use Rattle.syn_parse.specs.Owned.{take_own}
 use Rattle.syn_parse.specs.ErrorWords.{span_in}
-use Rattle.syn_parse.specs.Tokens.{ident_in, lifetime_in}
-use Rattle.syn_parse.specs.Tokens.{literal_in, punct_in}
-use Rattle.syn_parse.specs.Tokens.{take_any_ident, take_any_lifetime, take_ident, take_keyword}
-use Rattle.syn_parse.specs.Tokens.{take_lifetime, take_literal, take_nothing}
-use Rattle.syn_parse.specs.Tokens.{take_punct, take_punctuation, take_underscore}
+use Rattle.syn_parse.specs.Lighter.{group_is_first}
+use Rattle.syn_parse.specs.TokenNames.{Name, take}
+use Rattle.syn_parse.specs.Tokens as token
+use Rattle.syn_parse.specs.Tokens.{Kind, ident_in, lifetime_in, literal_in, punct_in, take_ident}
+use Rattle.syn_parse.specs.Tokens.{take_literal, take_nothing, take_token}
 use Rattle.syn_parse.specs.Positions.{Missing}
 use Rattle.syn_parse.specs.TreesAhead.{Ahead, all_taken, only_trees, unread_after}
 use Rattle.syn_parse.specs.Takes.{Outcome, Taking, after_inside, found, inside_first, missing}
-use Rattle.syn_parse.specs.Takes.{and_then}
-use Rattle.syn_parse.specs.Takes.{read_as, take_by, take_group}
+use Rattle.syn_parse.specs.Takes.{and_then, read_as, take_by, take_group}
 
 -- these trees are ahead first
 abbrev pub before : List Tree → Ahead → Ahead
@@ -67,6 +65,16 @@ pub then_found : {A B : Type 0} (o : Outcome A) (k : A → Ahead → Outcome B) 
     → and_then o k ≡ found w b → Then o k w b
 then_found (found v c) k w b e = record { value = v; after = c; first = refl; rest = e }
 then_found (missing m) k w b e = absurd (cc)
+
+-- a step finds a value, and the steps after it go on from there
+pub step : {A B : Type 0} {o : Outcome A} {v : A} {b : Ahead} {w : Outcome B}
+    (k : A → Ahead → Outcome B) → o ≡ found v b → k v b ≡ w → and_then o k ≡ w
+step k e h = ap (λ x. and_then x k) e ∙ h
+
+-- the test is false, so the other branch is taken
+pub past : {A : Type 0} {t : Bool} {o w : Outcome A} (there : Outcome A) → t ≡ false → o ≡ w
+    → cond t there o ≡ w
+past {o} there e h = ap (λ c. cond c there o) e ∙ h
 
 pub found_first : {A : Type 0} {x y : A} {a b : Ahead} → found x a ≡ found y b → x ≡ y
 found_first e = cc
@@ -142,12 +150,22 @@ first_tree wanted = record {
   go no_trees g ts e = absurd (cc)
   go (tree t f) g ts e = by_test t f g ts (wanted t) refl e
 
+abbrev One : (Tree → Bool) → List Tree → Type 0
+One wanted ts = (t : Tree) × (ts ≡ t ∷ []) × (wanted t ≡ true)
+
+-- a token of one tree, by a test
+by_tree : {T : Type 0} (Is : T → List Tree → Type 0) (wanted : Tree → Bool) (means : List Tree → T)
+    (lack : Forest → Missing)
+    → ((t : Tree) → wanted t ≡ true → Is (means (t ∷ [])) (t ∷ []))
+    → ((v : T) (ts : List Tree) → Is v ts → One wanted ts × (means ts ≡ v))
+    → Shape Is (take_by (first_if wanted) means lack)
+by_tree Is wanted means lack is are =
+    by_read Is _ _ means lack (first_tree wanted)
+    (λ ts i. subst (λ us. Is (means us) us) (sym i.1) (is i.0 i.2)) are
+
 -- an identifier of an accepted text
 abbrev pub IsAccepted : (List ℕ → Bool) → Ident → List Tree → Type 0
 IsAccepted accept v ts = IsIdent v ts × (accept v.text ≡ true)
-
-abbrev One : (Tree → Bool) → List Tree → Type 0
-One wanted ts = (t : Tree) × (ts ≡ t ∷ []) × (wanted t ≡ true)
 
 ident_is : (accept : List ℕ → Bool) (t : Tree) → is_ident_of accept t ≡ true
     → IsAccepted accept (ident_in (t ∷ [])) (t ∷ [])
@@ -156,33 +174,17 @@ ident_is accept (leaf (punct c x y)) h = absurd (false≢true h)
 ident_is accept (leaf (literal x y)) h = absurd (false≢true h)
 ident_is accept (group d x y) h = absurd (false≢true h)
 
-is_ident : (accept : List ℕ → Bool) (ts : List Tree) → One (is_ident_of accept) ts
-    → IsAccepted accept (ident_in ts) ts
-is_ident accept ts i = subst (λ us. IsAccepted accept (ident_in us) us) (sym i.1)
-    (ident_is accept i.0 i.2)
-
-are_ident : (accept : List ℕ → Bool) (v : Ident) (ts : List Tree) → IsAccepted accept v ts
-    → One (is_ident_of accept) ts × (ident_in ts ≡ v)
-are_ident accept v ts i = ((leaf (ident_of v), i.0, i.1), ap ident_in i.0)
-
-pub ident_shape : Shape (IsAccepted accept_as_ident) take_ident
-unfolding take_ident
-ident_shape =
-    by_read _ _ _ ident_in _ (first_tree (is_ident_of accept_as_ident)) (is_ident accept_as_ident)
-    (are_ident accept_as_ident)
+any_ident_is : (t : Tree) → any_ident t ≡ true → IsIdent (ident_in (t ∷ [])) (t ∷ [])
+any_ident_is (leaf (ident text span)) h = refl
+any_ident_is (leaf (punct c x y)) h = absurd (false≢true h)
+any_ident_is (leaf (literal x y)) h = absurd (false≢true h)
+any_ident_is (group d x y) h = absurd (false≢true h)
 
 literal_is : (t : Tree) → is_literal t ≡ true → IsLiteral (literal_in (t ∷ [])) (t ∷ [])
 literal_is (leaf (literal text span)) h = refl
 literal_is (leaf (punct c x y)) h = absurd (false≢true h)
 literal_is (leaf (ident x y)) h = absurd (false≢true h)
 literal_is (group d x y) h = absurd (false≢true h)
-
-pub literal_shape : Shape IsLiteral take_literal
-unfolding take_literal
-literal_shape =
-    by_read _ _ _ literal_in _ (first_tree is_literal)
-    (λ ts i. subst (λ us. IsLiteral (literal_in us) us) (sym i.1) (literal_is i.0 i.2))
-    (λ v ts i. ((leaf (literal_of v), i, refl), ap literal_in i))
 
 -- a punct other than an apostrophe
 abbrev pub IsOwnPunct : Punct → List Tree → Type 0
@@ -194,13 +196,6 @@ punct_is (leaf (literal x y)) h = absurd (false≢true h)
 punct_is (leaf (ident x y)) h = absurd (false≢true h)
 punct_is (group d x y) h = absurd (false≢true h)
 
-pub punct_shape : Shape IsOwnPunct take_punct
-unfolding take_punct
-punct_shape =
-    by_read _ _ _ punct_in _ (first_tree is_punct)
-    (λ ts i. subst (λ us. IsOwnPunct (punct_in us) us) (sym i.1) (punct_is i.0 i.2))
-    (λ v ts i. ((leaf (punct_of v), i.0, i.1), ap punct_in i.0))
-
 -- puncts of these characters, each but the last joint
 abbrev pub Spells : List ℕ → List Tree → Type 0
 Spells [] ts = ⊥
@@ -210,7 +205,7 @@ Spells (c ∷ (d ∷ cs)) ts =
     × Spells (d ∷ cs) ws
 
 -- the trees of two lists, one after the other
-forests_join : (us ws : List Tree) (g : Forest)
+pub forests_join : (us ws : List Tree) (g : Forest)
     → concat (forest us) (concat (forest ws) g) ≡ concat (forest (us ++ ws)) g
 forests_join [] ws g = refl
 forests_join (u ∷ us) ws g = ap (tree u) (forests_join us ws g)
@@ -265,25 +260,6 @@ puncts (c ∷ (d ∷ cs)) = two_reads _ _ _ _ (first_tree (is_joint_of c)) (punc
 abbrev pub IsPunctuation : (k n : ℕ) → Punctuation k n → List Tree → Type 0
 IsPunctuation k n v ts = Spells (punctuation_word k n) ts × AreSpans v.spans ts
 
-pub punctuation_shape : (k n : ℕ) → Shape (IsPunctuation k n) (take_punctuation k n)
-unfolding take_punctuation
-punctuation_shape k n =
-    by_read _ _ _ (λ ts. record { spans = map tree_span ts }) _ (puncts (punctuation_word k n))
-    (λ ts i. (i, refl)) (λ v ts i. (i.0, ap (λ xs. record { spans = xs }) (sym i.1)))
-
-any_ident_is : (t : Tree) → any_ident t ≡ true → IsIdent (ident_in (t ∷ [])) (t ∷ [])
-any_ident_is (leaf (ident text span)) h = refl
-any_ident_is (leaf (punct c x y)) h = absurd (false≢true h)
-any_ident_is (leaf (literal x y)) h = absurd (false≢true h)
-any_ident_is (group d x y) h = absurd (false≢true h)
-
-pub any_ident_shape : Shape IsIdent take_any_ident
-unfolding take_any_ident
-any_ident_shape =
-    by_read _ _ _ ident_in _ (first_tree any_ident)
-    (λ ts i. subst (λ us. IsIdent (ident_in us) us) (sym i.1) (any_ident_is i.0 i.2))
-    (λ v ts i. ((leaf (ident_of v), i, refl), ap ident_in i))
-
 -- an identifier of one text
 text_is : (text : List ℕ) (t : Tree) → is_ident_of (bytes_eq text) t ≡ true
     → IsSpanOf text (span_in (t ∷ [])) (t ∷ [])
@@ -299,36 +275,18 @@ word_is text ts i = subst (λ us. IsSpanOf text (span_in us) us) (sym i.1) (text
 
 is_word : (text : List ℕ) (span : Span) (ts : List Tree) → IsSpanOf text span ts
     → One (is_ident_of (bytes_eq text)) ts × (span_in ts ≡ span)
-is_word text span ts i = (
-  (leaf (ident text span), i, (bytes_eq-Decides text text).1 refl),
-  ap
-      span_in i,
-)
+is_word text span ts i =
+    ((leaf (ident text span), i, (bytes_eq-Decides text text).1 refl), ap span_in i)
 
-a_word : (text : List ℕ) (c : ℕ) (cs : List ℕ) → text ≡ c ∷ cs
+-- a text that is not empty
+abbrev pub IsFull : List ℕ → Type 0
+IsFull text = (c : ℕ) × (cs : List ℕ) × (text ≡ c ∷ cs)
+
+a_word : (text : List ℕ) → IsFull text
     → ReadShape (first_keyword text) (One (is_ident_of (bytes_eq text)))
-a_word text c cs e =
-    subst (λ t. ReadShape (first_keyword t) (One (is_ident_of (bytes_eq t)))) (sym e) (first_tree _)
-
--- a keyword of the table
-pub keyword_shape : (k c : ℕ) (cs : List ℕ) → keyword_text k ≡ c ∷ cs
-    → Shape (λ v. IsSpanOf (keyword_text k) v.span) (take_keyword k)
-unfolding take_keyword
-keyword_shape k c cs e =
-    by_read _ _ _ (λ ts. record { span = span_in ts }) _ (a_word (keyword_text k) c cs e)
-    (word_is (keyword_text k)) (λ v ts i.
-    let w = is_word (keyword_text k) v.span ts i in (w.0, ap (λ s. record { span = s }) w.1))
-
--- a keyword of one's own
-pub own_shape : (text : List ℕ) (c : ℕ) (cs : List ℕ) → text ≡ c ∷ cs
-    → Shape (IsSpanOf text) (take_own text)
-unfolding take_own
-own_shape text c cs e = by_read _ _ _ span_in _ (a_word text c cs e) (word_is text) (is_word text)
-
-pub underscore_shape : Shape (IsSpanOf (codes "_")) take_underscore
-unfolding take_underscore
-underscore_shape = by_read _ _ _ span_in _ (first_tree _) (word_is (codes "_"))
-    (is_word (codes "_"))
+a_word text e =
+    subst (λ t. ReadShape (first_keyword t) (One (is_ident_of (bytes_eq t)))) (sym e.2)
+    (first_tree _)
 
 -- an apostrophe and an identifier of an accepted text
 abbrev pub IsAcceptedLifetime : (List ℕ → Bool) → Lifetime → List Tree → Type 0
@@ -376,16 +334,49 @@ lifetimes : (accept : List ℕ → Bool) → ReadShape (first_lifetime accept) (
 lifetimes accept =
     two_reads _ _ _ _ (first_tree is_joint_apostrophe) (first_tree (is_ident_of accept))
 
-pub lifetime_shape : Shape (IsAcceptedLifetime accept_as_lifetime) take_lifetime
-unfolding take_lifetime
-lifetime_shape =
-    by_read _ _ _ lifetime_in _ (lifetimes accept_as_lifetime) (pair_is accept_as_lifetime)
-    (is_pair accept_as_lifetime)
+-- a token is these trees
+abbrev pub IsToken : {A : Type 0} → Kind A → A → List Tree → Type 0
+IsToken token.ident v ts = IsAccepted accept_as_ident v ts
+IsToken token.any_ident v ts = IsIdent v ts
+IsToken token.lifetime v ts = IsAcceptedLifetime accept_as_lifetime v ts
+IsToken token.any_lifetime v ts = IsAcceptedLifetime any_text v ts
+IsToken token.literal v ts = IsLiteral v ts
+IsToken token.punct v ts = IsOwnPunct v ts
+IsToken (token.own text) v ts = IsSpanOf text v ts
+IsToken (token.keyword k) v ts = IsSpanOf (keyword_text k) v.span ts
+IsToken (token.punctuation k n) v ts = IsPunctuation k n v ts
 
-pub any_lifetime_shape : Shape (IsAcceptedLifetime any_text) take_any_lifetime
-unfolding take_any_lifetime
-any_lifetime_shape =
-    by_read _ _ _ lifetime_in _ (lifetimes any_text) (pair_is any_text) (is_pair any_text)
+-- the text of a word is not empty
+abbrev pub IsWritten : {A : Type 0} → Kind A → Type 0
+IsWritten (token.own text) = IsFull text
+IsWritten (token.keyword k) = IsFull (keyword_text k)
+IsWritten t = Unit {0}
+
+pub token_shape : {A : Type 0} (t : Kind A) → IsWritten t → Shape (IsToken t) (take_token t)
+unfolding take_token
+token_shape token.ident h =
+    by_tree _ _ ident_in _ (ident_is accept_as_ident)
+    (λ v ts i. ((leaf (ident_of v), i.0, i.1), ap ident_in i.0))
+token_shape token.any_ident h =
+    by_tree _ _ ident_in _ any_ident_is (λ v ts i. ((leaf (ident_of v), i, refl), ap ident_in i))
+token_shape token.lifetime h =
+    by_read _ _ _ lifetime_in _ (lifetimes _) (pair_is _) (is_pair _)
+token_shape token.any_lifetime h =
+    by_read _ _ _ lifetime_in _ (lifetimes _) (pair_is _) (is_pair _)
+token_shape token.literal h =
+    by_tree _ _ literal_in _ literal_is
+    (λ v ts i. ((leaf (literal_of v), i, refl), ap literal_in i))
+token_shape token.punct h =
+    by_tree _ _ punct_in _ punct_is (λ v ts i. ((leaf (punct_of v), i.0, i.1), ap punct_in i.0))
+token_shape (token.own text) h =
+    by_read _ _ _ span_in _ (a_word text h) (word_is text) (is_word text)
+token_shape (token.keyword k) h =
+    let text = keyword_text k in
+    by_read _ _ _ (λ ts. record { span = span_in ts }) _ (a_word text h) (word_is text)
+    (λ v ts i. let w = is_word text v.span ts i in (w.0, ap (λ s. record { span = s }) w.1))
+token_shape (token.punctuation k n) h =
+    by_read _ _ _ (λ ts. record { spans = map tree_span ts }) _ (puncts (punctuation_word k n))
+    (λ ts i. (i, refl)) (λ v ts i. (i.0, ap (λ xs. record { spans = xs }) (sym i.1)))
 
 pub nothing_shape : Shape (λ v ts. ts ≡ []) take_nothing
 nothing_shape = record {
@@ -402,13 +393,6 @@ pub record GroupTaken {A : Type 0} (d : Delimiter) (inner : Taking A) (v : Delim
   pub inside : inner (only_trees content) ≡ found v.1 left
   pub trees : a.trees ≡ tree (group d content v.0.join) b.trees
   pub unread : b.unread ≡ unread_after a left
-
-same_is : (d c : Delimiter) → same_delimiter d c ≡ true → c ≡ d
-same_is delimiter.Parenthesis delimiter.Parenthesis h = refl
-same_is delimiter.Brace delimiter.Brace h = refl
-same_is delimiter.Bracket delimiter.Bracket h = refl
-same_is delimiter.None delimiter.None h = refl
-same_is d c h = absurd (false≢true h)
 
 itself : (d : Delimiter) → same_delimiter d d ≡ true
 itself delimiter.Parenthesis = refl
@@ -435,21 +419,6 @@ module _ {A : Type 0} (d : Delimiter) (inner : Taking A) where
         unread = sym (ap (λ (x : Ahead). x.unread) after);
       }
 
-  group_is_first : (f : Forest) (e : EnteredWith Forest) → first_group d f ≡ Some e
-      → f ≡ tree (group d e.content e.span) e.after
-  group_is_first no_trees e h = absurd (cc)
-  group_is_first (tree (leaf l) f) e h = absurd (cc)
-  group_is_first (tree (group c content span) f) e h = go (same_delimiter d c) refl h where
-    go : (t : Bool) → same_delimiter d c ≡ t
-        → cond t (Some (record { delimiter = c; span = span; content = content; after = f })) None ≡
-        Some e
-        → tree (group c content span) f ≡ tree (group d e.content e.span) e.after
-    go false k m = absurd (cc)
-    go true k m =
-        let x : record { delimiter = c; span = span; content = content; after = f } ≡ e = cc in
-        ap (λ z. tree (group z content span) f) (same_is d c k)
-        ∙ ap (λ (y : EnteredWith Forest). tree (group d y.content y.span) y.after) x
-
   pub group_taken : (a b : Ahead) (v : DelimSpan × A) → take_group d inner a ≡ found v b
       → GroupTaken d inner v a b
   unfolding take_group
@@ -458,7 +427,7 @@ module _ {A : Type 0} (d : Delimiter) (inner : Taking A) where
         ≡ found v b
         → GroupTaken d inner v a b
     go None h k = absurd (cc)
-    go (Some x) h k = inside_taken a x b v _ refl k (group_is_first a.trees x h)
+    go (Some x) h k = inside_taken a x b v _ refl k (group_is_first d a.trees x h).0
 
   pub takes_group : (content : Forest) (span : Span) (x : A) (b : Ahead)
       → inner (only_trees content) ≡ found x all_taken
@@ -502,10 +471,10 @@ sign_is c v (leaf (ident x y)) h e = absurd (false≢true h)
 sign_is c v (leaf (literal x y)) h e = absurd (false≢true h)
 sign_is c v (group d x y) h e = absurd (false≢true h)
 
-pub sign_shape : (k c : ℕ) → punctuation_word k 1 ≡ c ∷ [] → is_own c ≡ true
-    → Shape (IsSign c) (take_punctuation k 1)
-sign_shape k c e own =
-    let shape = punctuation_shape k 1 in
+pub sign_shape : {k : ℕ} (name : Name (Punctuation k 1) (token.punctuation k 1)) (c : ℕ)
+    → punctuation_word k 1 ≡ c ∷ [] → is_own c ≡ true → Shape (IsSign c) (take name)
+sign_shape {k} name c e own =
+    let shape = token_shape (token.punctuation k 1) tt in
     record {
       taken = λ a b v h.
           let t = shape.taken a b v h in
@@ -522,3 +491,35 @@ sign_shape k c e own =
             ap (λ (w : Punctuation k 1). w.spans) i.3 ∙ sym (ap (map tree_span) i.2),
           );
     }
+
+-- the token that comes first is taken
+module _ {f : Forest} {u : Option Span} where
+  pub ident_ahead : (name : Ident) → accept_as_ident name.text ≡ true
+      → take_ident (record { trees = tree (leaf (ident_of name)) f; unread = u })
+      ≡ found name (record { trees = f; unread = u })
+  ident_ahead name e =
+      (token_shape token.ident tt).takes (record { trees = f; unread = u }) name
+      (leaf (ident_of name) ∷ []) (refl, e)
+
+  pub literal_ahead : (l : Literal)
+      → take_literal (record { trees = tree (leaf (literal_of l)) f; unread = u })
+      ≡ found l (record { trees = f; unread = u })
+  literal_ahead l =
+      (token_shape token.literal tt).takes (record { trees = f; unread = u }) l
+      (leaf (literal_of l) ∷ []) refl
+
+  pub sign_ahead : {k c : ℕ} → Shape (IsSign c) (take_token (token.punctuation k 1))
+      → (spacing : Spacing) (span : Span)
+      → take_token (token.punctuation k 1)
+      (record { trees = tree (leaf (punct c spacing span)) f; unread = u })
+      ≡ found (record { spans = span ∷ [] }) (record { trees = f; unread = u })
+  sign_ahead {k} {c} h spacing span =
+      h.takes (record { trees = f; unread = u }) (record { spans = span ∷ [] })
+      (leaf (punct c spacing span) ∷ []) (spacing, span, refl, refl)
+
+  pub group_ahead : {A : Type 0} (d : Delimiter) (inner : Taking A) {content : Forest} {span : Span}
+      {x : A} → inner (only_trees content) ≡ found x all_taken
+      → take_group d inner (record { trees = tree (group d content span) f; unread = u })
+      ≡ found (record { join = span }, x) (record { trees = f; unread = u })
+  group_ahead d inner {content} {span} {x} e =
+      takes_group d inner content span x (record { trees = f; unread = u }) e

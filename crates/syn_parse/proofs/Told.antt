@@ -4,20 +4,16 @@ use Rattle.std.proofs.Common.{Option, Some, None, Ok, Err}
 use Rattle.std.specs.Prelude.{Bool, Result, IfSome, true, false, cond, codes, not, ◌++◌, length}
 use Rattle.std.specs.Prelude.{map}
 use Rattle.std.proofs.lemmas.Bool.{false≢true}
-use Rattle.tok_leaves.specs.declared.ident.Ident.{Ident}
-use Rattle.tok_leaves.specs.declared.lifetime.Lifetime.{Lifetime}
-use Rattle.tok_leaves.specs.declared.literal.Literal.{Literal}
-use Rattle.tok_leaves.specs.declared.punct.Punct.{Punct}
 use Rattle.tok_leaves.specs.declared.span.Span.{Span}
 use Rattle.tok_core.specs.Filled.{has_trees}
 use Rattle.tok_core.specs.Forest.{Tree, Forest, tree_span}
-use Rattle.tok_buffer.specs.EachRead.{first_if, first_keyword, first_lifetime, first_puncts}
+use Rattle.tok_buffer.specs.EachRead.{first_if, first_lifetime, first_puncts}
 use Rattle.tok_buffer.specs.InFront.{with_ahead}
 use Rattle.tok_buffer.specs.Buffer.{Laid}
 use Rattle.tok_buffer.specs.Messages.{message_at, one_message}
 use Rattle.tok_buffer.specs.Place.{Place, is_at_end}
 use Rattle.tok_buffer.specs.Reached.{Reached}
-use Rattle.tok_buffer.specs.Reads.{any_text, is_ident, is_ident_of, is_literal, is_punct}
+use Rattle.tok_buffer.specs.Reads.{any_text, is_ident, is_ident_of}
 use Rattle.tok_buffer.specs.Reads.{read_ident, read_lifetime, read_punct}
 use Rattle.tok_buffer.specs.declared.error.Message.{Message}
 use Rattle.tok_buffer.specs.Rest.{scope_delimiter}
@@ -32,18 +28,15 @@ use Rattle.tok_buffer.proofs.View.Readings.{Reading, of_ident, of_word, of_lifet
 use Rattle.tok_buffer.proofs.View.Readings.{of_keyword}
 use Rattle.tok_buffer.proofs.View.Readings.{of_punct, of_punctuation}
 use Rattle.tok_buffer.proofs.View.Tells.{tells}
-use Rattle.tok_types.specs.Printed.{first_span}
 use Rattle.tok_types.specs.Texts.{accept_as_ident, in_backquotes, keyword_text, punctuation_word}
-use Rattle.tok_types.specs.declared.keyword.Keyword.{Keyword}
-use Rattle.tok_types.specs.declared.punctuation.Punctuation.{Punctuation}
-use Rattle.tok_types.specs.declared.underscore.Underscore.{Underscore}
 use Rattle.syn_parse.specs.Parses.{AnyIdentParses, AnyLifetimeParses, AreSpans, IdentParses}
 use Rattle.syn_parse.specs.Parses.{IsIdent}
 use Rattle.syn_parse.specs.Parses.{IsLifetime, IsLiteral, IsPunct, IsSpanOf, LifetimeParses}
 use Rattle.syn_parse.specs.Parses.{LiteralParses, PunctParses, WordParses, accept_as_lifetime}
-use Rattle.syn_parse.specs.Progress.{KeywordParses, PunctuationTypeParses, UnderscoreParses}
+use Rattle.syn_parse.specs.Progress.{KeywordParses, PunctuationTypeParses}
 use Rattle.syn_parse.specs.Faults.{IsMemory, Refuses}
-use Rattle.syn_parse.specs.Reads.{TreesRead, Reads, ReadsAtOnce}
+use Rattle.syn_parse.specs.Owned.{take_own}
+use Rattle.syn_parse.specs.Reads.{Call, TreesRead, Reads, ReadsAtOnce}
 use Rattle.syn_parse.specs.ErrorWords.{ident_words, expected, lifetime_words, punctuation_message}
 use Rattle.syn_parse.specs.ErrorWords.{punct_span, punctuation_span, refused_at, span_in}
 use Rattle.syn_parse.specs.Positions.{IsAt, Missing, scope_trees}
@@ -51,15 +44,15 @@ use Rattle.syn_parse.specs.State.{State, fresh, moved, state_span}
 use Rattle.syn_parse.specs.declared.fault.Fault.{Fault}
 use Rattle.syn_parse.specs.declared.fault.Fault.TheVariants.{Refused, Memory}
 use Rattle.syn_parse.specs.TreesAhead.{Ahead, IsFilled, ahead, scope_of}
-use Rattle.syn_parse.specs.Lookahead.{LookaheadView, at_look, closing_word, list_words, look_message}
+use Rattle.syn_parse.specs.Lookahead.{LookaheadView, at_look, closing_word, list_words}
+use Rattle.syn_parse.specs.Lookahead.{look_message}
 use Rattle.syn_parse.specs.Lookahead.{look_missing, missing_names, named_ends, names_message}
 use Rattle.syn_parse.specs.Takes.{IsMissing, Outcome, SaysAt, SaysFound, Takes, TakesAs, found}
 use Rattle.syn_parse.specs.Takes.{missing_next, or_end, read_as, take_by}
-use Rattle.syn_parse.specs.Tokens.{ident_in, ident_missing, lifetime_in, lifetime_missing}
-use Rattle.syn_parse.specs.Tokens.{literal_in, punct_position, sign_missing, sign_position}
-use Rattle.syn_parse.specs.Tokens.{punct_in, take_any_ident, take_any_lifetime, take_ident}
-use Rattle.syn_parse.specs.Tokens.{take_keyword, take_lifetime, take_literal, take_punct}
-use Rattle.syn_parse.specs.Tokens.{take_punctuation, take_underscore}
+use Rattle.syn_parse.specs.Tokens.{ident_in, lifetime_in, literal_in, punct_position, sign_missing}
+use Rattle.syn_parse.specs.Tokens.{sign_position}
+use Rattle.syn_parse.specs.Tokens.{Kind, any_ident, any_lifetime, ident, keyword, lifetime, literal}
+use Rattle.syn_parse.specs.Tokens.{own, punct, punct_in, punctuation, take_token}
 use Rattle.syn_parse.proofs.Failing.{says_memory}
 use Rattle.syn_parse.proofs.Positions.{InScope, scope_kept, start_told, whole_told}
 use Rattle.syn_parse.proofs.Progress.{at_once}
@@ -190,11 +183,11 @@ module _ {T A : Type 0} (form : T → A) (Means : T → List Tree → Type 0) (m
         → TakesAs form take s r t
     told-at-once r h = read_told r (at_once Means s (read s.place) message r t h)
 
-ident-words : (x : TreesRead) → ident_words x ≡ ident_missing (with_ahead x)
+ident-words : (x : TreesRead) → ident_words x ≡ ident_words (with_ahead x)
 ident-words None = refl
 ident-words (Some r) = refl
 
-lifetime-words : (x : TreesRead) → lifetime_words x ≡ lifetime_missing (with_ahead x)
+lifetime-words : (x : TreesRead) → lifetime_words x ≡ lifetime_words (with_ahead x)
 lifetime-words None = refl
 lifetime-words (Some r) = refl
 
@@ -207,94 +200,29 @@ in_words : {v w : List ℕ} (s : State) (f : Fault) → v ≡ w
 in_words s f e h =
     subst (λ x. SaysAt s (missing_next x (ahead s).trees) f) e h
 
-pub ident_told : (s : State) (r : Result Ident Fault) (t : State) → IdentParses s r t
-    → Takes take_ident s r t
-unfolding take_ident
-ident_told s r t h =
-    let words : ident_words (read_ident s.place)
-    ≡ ident_missing (first_if is_ident (erased_ahead s.place)) =
-    ident-words (read_ident s.place) ∙ ap ident_missing (tells of_ident s.place) in
-    read_told same IsIdent ident_in (λ v ts m. sym (ap ident_in m))
-    (first_if (is_ident_of accept_as_ident))
-    (λ f. missing_next (ident_missing (first_if is_ident f)) f)
-    (refused_at s (ident_words (read_ident s.place))) s t
-    (λ f k. in_words s f words (here_told (ident_words (read_ident s.place)) s f k))
-    (of_word accept_as_ident) r h
+-- a read whose error has the same words everywhere
+module _ {T A : Type 0} (form : T → A) (Means : T → List Tree → Type 0) (means : List Tree → A)
+    (fits : (v : T) (ts : List Tree) → Means v ts → form v ≡ means ts)
+    {read : Place → TreesRead} {first : Forest → Option (List Tree × Forest)}
+    (reading : Reading read first) (words : List ℕ) (s : State) (r : Result T Fault)
+    (t : State) where
+  worded_told : Reads Means (read s.place) (refused_at s words) s r t
+      → TakesAs form (take_by first means (missing_next words)) s r t
+  worded_told h =
+      read_told form Means means fits first (missing_next words) (refused_at s words) s t
+      (here_told words s) reading r h
 
-pub any_ident_told : (s : State) (r : Result Ident Fault) (t : State) → AnyIdentParses s r t
-    → Takes take_any_ident s r t
-unfolding take_any_ident
-any_ident_told s r t h =
-    let words = codes "expected ident" in
-    read_told same IsIdent ident_in (λ v ts m. sym (ap ident_in m)) (first_if is_ident)
-    (missing_next words) (refused_at s words) s t (here_told words s) of_ident r h
+  worded_at_once : ReadsAtOnce Means (read s.place) (refused_at s words) s r t
+      → TakesAs form (take_by first means (missing_next words)) s r t
+  worded_at_once h = worded_told (at_once Means s (read s.place) (refused_at s words) r t h)
 
-pub literal_told : (s : State) (r : Result Literal Fault) (t : State) → LiteralParses s r t
-    → Takes take_literal s r t
-unfolding take_literal
-literal_told s r t h =
-    let words = codes "expected literal token" in
-    read_told same IsLiteral literal_in (λ v ts m. sym (ap literal_in m)) (first_if is_literal)
-    (missing_next words)
-    (refused_at s words) s t (here_told words s) of_literal r h
-
-pub punct_told : (s : State) (r : Result Punct Fault) (t : State) → PunctParses s r t
-    → Takes take_punct s r t
-unfolding take_punct
-punct_told s r t h =
-    let words = codes "expected punctuation token" in
-    told-at-once same IsPunct punct_in (λ v ts m. sym (ap punct_in m)) (first_if is_punct)
-    (missing_next words)
-    (refused_at s words) s t (here_told words s) of_punct r h
-
-pub lifetime_told : (s : State) (r : Result Lifetime Fault) (t : State) → LifetimeParses s r t
-    → Takes take_lifetime s r t
-unfolding take_lifetime
-lifetime_told s r t h =
-    let read = read_lifetime any_text s.place in
-    let words : lifetime_words read
-    ≡ lifetime_missing (first_lifetime any_text (erased_ahead s.place)) =
-    lifetime-words read ∙ ap lifetime_missing (tells (of_lifetime any_text) s.place) in
-    read_told same IsLifetime lifetime_in (λ v ts m. sym (ap lifetime_in m))
-    (first_lifetime accept_as_lifetime)
-    (λ f. missing_next (lifetime_missing (first_lifetime any_text f)) f)
-    (refused_at s (lifetime_words read)) s t
-    (λ f k. in_words s f words (here_told (lifetime_words read) s f k))
-    (of_lifetime accept_as_lifetime) r h
-
-pub any_lifetime_told : (s : State) (r : Result Lifetime Fault) (t : State)
-    → AnyLifetimeParses s r t
-    → Takes take_any_lifetime s r t
-unfolding take_any_lifetime
-any_lifetime_told s r t h =
-    let words = codes "expected lifetime" in
-    read_told same IsLifetime lifetime_in (λ v ts m. sym (ap lifetime_in m))
-    (first_lifetime any_text) (missing_next words) (refused_at s words) s t (here_told words s)
-    (of_lifetime any_text) r h
-
-module _ {T A : Type 0} (form : T → A) (span_of : T → Span) (means : List Tree → A) (text : List ℕ)
-    (fits : (v : T) (ts : List Tree) → IsSpanOf text (span_of v) ts → form v ≡ means ts) where
-  pub word_told : (s : State) (r : Result T Fault) (t : State) → WordParses span_of text s r t
-      → TakesAs form
-      (take_by (first_keyword text) means (missing_next (expected (in_backquotes text)))) s r t
-  word_told s r t h =
-      let words = expected (in_backquotes text) in
-      told-at-once form (λ v. IsSpanOf text (span_of v)) means fits (first_keyword text)
-      (missing_next words) (refused_at s words) s t (here_told words s) (of_keyword text) r h
-
-pub keyword_told : (k : ℕ) (s : State) (r : Result (Keyword k) Fault) (t : State)
-    → KeywordParses k s r t → Takes (take_keyword k) s r t
-unfolding take_keyword
-keyword_told k s r t h =
-    word_told same (λ v. v.span) (λ ts. record { span = span_in ts }) (keyword_text k)
-    (λ v ts m. sym (ap (λ us. record { span = span_in us }) m)) s r t h
-
-pub underscore_told : (s : State) (r : Result Underscore Fault) (t : State) → UnderscoreParses s r t
-    → TakesAs (λ u. first_span u.spans) take_underscore s r t
-unfolding take_underscore
-underscore_told s r t h =
-    word_told (λ u. first_span u.spans) (λ u. first_span u.spans) span_in (codes "_")
-    (λ v ts m. sym (ap span_in m)) s r t h
+-- an identifier of a text, whose span is the form of the value
+pub own_told : {T : Type 0} (span_of : T → Span) (text : List ℕ) (s : State) (r : Result T Fault)
+    (t : State) → WordParses span_of text s r t → TakesAs span_of (take_own text) s r t
+unfolding take_token
+own_told span_of text s r t h =
+    worded_at_once span_of (λ v. IsSpanOf text (span_of v)) span_in (λ v ts m. sym (ap span_in m))
+    (of_keyword text) (expected (in_backquotes text)) s r t h
 
 -- a punctuation's error is at the punct that is next, if one is
 sign-at : (s : State) → IsFilled s.place → (x : TreesRead)
@@ -318,10 +246,61 @@ sign_told : (text : List ℕ) (s : State) (f : Fault) → Refuses (punctuation_m
 sign_told text s (Refused e) h i = (punctuation_span text s, sign_at text s i, h)
 sign_told text s (Memory e) h i = tt
 
-pub punctuation_told : (k n : ℕ) (s : State) (r : Result (Punctuation k n) Fault) (t : State)
-    → PunctuationTypeParses k n s r t → Takes (take_punctuation k n) s r t
-unfolding take_punctuation
-punctuation_told k n s r t h =
+-- how a token is parsed
+abbrev pub TokenParses : {A : Type 0} → Kind A → Call A
+TokenParses ident = IdentParses
+TokenParses any_ident = AnyIdentParses
+TokenParses lifetime = LifetimeParses
+TokenParses any_lifetime = AnyLifetimeParses
+TokenParses literal = LiteralParses
+TokenParses punct = PunctParses
+TokenParses (own text) = WordParses (λ span. span) text
+TokenParses (keyword k) = KeywordParses k
+TokenParses (punctuation k n) = PunctuationTypeParses k n
+
+-- a parse of a token takes it
+pub token_told : {A : Type 0} (token : Kind A) (s : State) (r : Result A Fault) (t : State)
+    → TokenParses token s r t → Takes (take_token token) s r t
+unfolding take_token
+token_told ident s r t h =
+    let read = read_ident s.place in
+    let words : ident_words read ≡ ident_words (first_if is_ident (erased_ahead s.place)) =
+    ident-words read ∙ ap ident_words (tells of_ident s.place) in
+    read_told same IsIdent ident_in (λ v ts m. sym (ap ident_in m))
+    (first_if (is_ident_of accept_as_ident))
+    (λ f. missing_next (ident_words (first_if is_ident f)) f) (refused_at s (ident_words read))
+    s t (λ f k. in_words s f words (here_told (ident_words read) s f k)) (of_word accept_as_ident)
+    r h
+token_told any_ident s r t h =
+    worded_told same IsIdent ident_in (λ v ts m. sym (ap ident_in m)) of_ident
+    (codes "expected ident") s r t h
+token_told lifetime s r t h =
+    let read = read_lifetime any_text s.place in
+    let words : lifetime_words read
+    ≡ lifetime_words (first_lifetime any_text (erased_ahead s.place)) =
+    lifetime-words read ∙ ap lifetime_words (tells (of_lifetime any_text) s.place) in
+    read_told same IsLifetime lifetime_in (λ v ts m. sym (ap lifetime_in m))
+    (first_lifetime accept_as_lifetime)
+    (λ f. missing_next (lifetime_words (first_lifetime any_text f)) f)
+    (refused_at s (lifetime_words read)) s t
+    (λ f k. in_words s f words (here_told (lifetime_words read) s f k))
+    (of_lifetime accept_as_lifetime) r h
+token_told any_lifetime s r t h =
+    worded_told same IsLifetime lifetime_in (λ v ts m. sym (ap lifetime_in m))
+    (of_lifetime any_text) (codes "expected lifetime") s r t h
+token_told literal s r t h =
+    worded_told same IsLiteral literal_in (λ v ts m. sym (ap literal_in m)) of_literal
+    (codes "expected literal token") s r t h
+token_told punct s r t h =
+    worded_at_once same IsPunct punct_in (λ v ts m. sym (ap punct_in m)) of_punct
+    (codes "expected punctuation token") s r t h
+token_told (own text) s r t h = own_told same text s r t h
+token_told (keyword k) s r t h =
+    let text = keyword_text k in
+    worded_at_once same (λ v. IsSpanOf text v.span) (λ ts. record { span = span_in ts })
+    (λ v ts m. sym (ap (λ us. record { span = span_in us }) m)) (of_keyword text)
+    (expected (in_backquotes text)) s r t h
+token_told (punctuation k n) s r t h =
     let text = punctuation_word k n in
     told-at-once same (λ v. AreSpans v.spans) (λ ts. record { spans = map tree_span ts })
     (λ v ts m. ap (λ x. record { spans = x }) m) (first_puncts text)

@@ -1,9 +1,11 @@
 -- A token and a value after it, if the token is next.
 use Rattle.std.specs.Prelude.{Bool, Option, None, Some, option_map}
 use Rattle.tok_core.specs.Forest.{Forest}
-use Rattle.syn_parse.specs.Lighter.{lightens_bind, lightens_gives, lightens_where}
+use Rattle.syn_parse.specs.Lighter.{lessens_bind, lessens_where, lightens_gives}
+use Rattle.syn_parse.specs.Nested.{Descends, descends_after, descends_bind, descends_same}
+use Rattle.syn_parse.specs.Nested.{descends_where}
 use Rattle.syn_parse.specs.Takes.{Taking, ◌>>=◌, gives, where_ahead}
-use Rattle.syn_parse.specs.Takings.{Lightens, Takings, told, told_filled, unweighed, untold}
+use Rattle.syn_parse.specs.Takings.{Lightens, Lowers, Takings, stated, told, unweighed, untold}
 use Rattle.syn_parse.specs.TreesAhead.{Ahead}
 
 -- a token and then a value if the test is true, and else nothing
@@ -20,17 +22,25 @@ pub lightens_after : {A B : Type 0} (test : Ahead → Bool) (token : Taking A) (
     → Lightens token → Lightens take → Lightens (take_after test token take)
 unfolding take_after
 lightens_after test token take h k =
-    lightens_where test _ _
-    (lightens_bind token _ h (λ p. lightens_bind take _ k (λ v. lightens_gives (Some (p, v)))))
+    lessens_where test _ _
+    (lessens_bind token _ h (λ p. lessens_bind take _ k (λ v. lightens_gives (Some (p, v)))))
     (lightens_gives None)
+
+-- a token and a value: the token takes something, so less is ahead of the value
+pub descends_after_token : {A B P : Type 0} (test : Ahead → Bool) (token : Taking P)
+    (take : Taking A → Taking B) → Lowers token → Descends 1 take
+    → Descends 0 (λ m. take_after test token (take m))
+unfolding take_after
+descends_after_token test token take h k =
+    descends_where 0 test _ _
+    (descends_after token _ h
+    (λ p. descends_bind 1 take _ k (λ v. descends_same 1 _ (lightens_gives (Some (p, v))))))
+    (descends_same 0 _ (lightens_gives None))
 
 -- a token and a value, by what the types of both state
 abbrev pub after : {P T : Type 0} → Option (Forest → Bool) → Takings P → Takings T
     → Takings (Option (P × T))
-after (Some sees) (told shape token w) (told form take x) =
-    told (option_map (λ r. (shape r.0, form r.1))) (take_after (λ a. sees a.trees) token take)
-    unweighed
-after (Some sees) (told shape token w) (told_filled form take x) =
-    told_filled (option_map (λ r. (shape r.0, form r.1)))
+after (Some sees) (told shape token w) (stated filled_alone form take x) =
+    stated filled_alone (option_map (λ r. (shape r.0, form r.1)))
     (take_after (λ a. sees a.trees) token take) unweighed
 after sees tokens values = untold

@@ -31,12 +31,12 @@ name_in (leaf (ident text span) ∷ ts) = text
 name_in (t ∷ ts) = name_in ts
 
 -- the text of the error at a missing identifier: there is none, or a keyword is next
-abbrev pub ident_words : Option (List Tree × Place) → List ℕ
+abbrev pub ident_words : {P : Type 0} → Option (List Tree × P) → List ℕ
 ident_words None = codes "expected identifier"
 ident_words (Some r) = codes "expected identifier, found keyword " ++ in_backquotes (name_in r.0)
 
 -- the text of the error at a missing lifetime: there is none, or its name is a keyword
-abbrev pub lifetime_words : Option (List Tree × Place) → List ℕ
+abbrev pub lifetime_words : {P : Type 0} → Option (List Tree × P) → List ℕ
 lifetime_words None = codes "expected lifetime"
 lifetime_words (Some r) = codes "unexpected keyword lifetime \"'" ++ (name_in r.0 ++ codes "\"")
 
@@ -55,16 +55,16 @@ abbrev pub punctuation_span : List ℕ → State → Span
 punctuation_span [] s = stream_span s.place s.scope_span
 punctuation_span (c ∷ cs) s = punct_span (read_punct s.place) (stream_span s.place s.scope_span)
 
--- a punctuation's error: at an end, too, with these words alone
+-- a punctuation's error, whose words don't name the end
 abbrev pub punctuation_message : List ℕ → State → Message
 punctuation_message text s =
     message_at (punctuation_span text s) (expected (in_backquotes text))
 
--- of a group that isn't there
+-- the text of the error at a missing group
 abbrev pub delimiter_words : Delimiter → List ℕ
 delimiter_words d = expected (delimiter_display d)
 
--- of a tree left over in a scope
+-- the text of the error at a tree left over in a scope
 abbrev pub leftover_words : Delimiter → List ℕ
 leftover_words Parenthesis = codes "unexpected token, expected `)`"
 leftover_words Brace = codes "unexpected token, expected `}`"

@@ -1,8 +1,12 @@
 -- What is taken makes what is ahead weigh less, or no more.
-use Rattle.std.proofs.Common.{◌≡◌, ap, subst, refl, arith, ℕ, ◌+◌, ◌<◌, ◌≤◌, Bool, true, false, cond}
+use Rattle.std.proofs.Common.{◌≡◌, ◌∙◌, sym, ap, subst, refl, arith, ℕ, ◌+◌, ◌<◌, ◌||◌, Bool, true}
+use Rattle.std.proofs.Common.{false, if◌then◌else◌}
 use Rattle.std.proofs.Common.{List, [], ◌∷◌, ◌++◌, Option, Some, None}
-use Rattle.std.specs.Prelude.{bytes_eq, codes}
+use Rattle.std.proofs.lemmas.Bool.{false≢true}
+use Rattle.std.specs.Prelude.{bytes_eq}
 use Rattle.tok_lexical.specs.declared.delimiter.Delimiter.{Delimiter}
+use Rattle.tok_lexical.specs.declared.delimiter.Delimiter.TheVariants.{Parenthesis, Brace, Bracket}
+use Rattle.tok_lexical.specs.declared.delimiter.Delimiter.TheVariants as delimiter
 use Rattle.tok_leaves.specs.declared.span.DelimSpan.{DelimSpan}
 use Rattle.tok_leaves.specs.declared.span.Span.{Span}
 use Rattle.tok_core.specs.Forest.{Tree, leaf, group, Forest, no_trees, tree}
@@ -15,71 +19,71 @@ use Rattle.tok_buffer.specs.InFront.{first_group}
 use Rattle.tok_buffer.specs.Reads.{is_ident_of, is_joint_of, is_punct_of}
 use Rattle.syn_parse.specs.Positions.{Missing}
 use Rattle.syn_parse.specs.TreesAhead.{Ahead}
-use Rattle.syn_parse.specs.Takings.{Lightens, Lowers}
+use Rattle.syn_parse.specs.Takings.{Less, Lessens, Lightens, Lowers}
 use Rattle.syn_parse.specs.Takes.{Outcome, Taking, ◌>>=◌, after_inside, and_then, found, gives}
-use Rattle.syn_parse.specs.Takes.{inside_first, missing, missing_next, read_as, refuses, refuses_at}
+use Rattle.syn_parse.specs.Takes.{inside_first, missing, read_as, refuses, refuses_at}
 use Rattle.syn_parse.specs.Takes.{take_by, take_group, where_ahead}
-use Rattle.syn_parse.specs.Tokens.{take_any_ident, take_any_lifetime, take_ident, take_keyword}
-use Rattle.syn_parse.specs.Tokens.{take_lifetime, take_literal, take_punct, take_punctuation}
-use Rattle.syn_parse.specs.Owned.{take_own}
-use Rattle.syn_parse.specs.Tokens.{take_underscore}
-use Rattle.syn_parse.specs.ErrorWords.{expected, span_in}
-use Rattle.tok_types.specs.Texts.{in_backquotes}
+use Rattle.syn_parse.specs.Tokens.{Kind, any_ident, any_lifetime, ident, keyword, lifetime, literal}
+use Rattle.syn_parse.specs.Tokens.{own, punct, punctuation, take_token}
 
 -- a parser that takes something adds nothing to what is ahead
 pub lightens_lower : {A : Type 0} (take : Taking A) → Lowers take → Lightens take
 lightens_lower take h = record { less = λ a b v e. omega (arith, h.less a b v e) }
 
+-- a parser adds nothing if either is known of it
+pub lightens : (strict : Bool) {A : Type 0} (take : Taking A) → Lessens strict take → Lightens take
+lightens false take h = h
+lightens true take h = lightens_lower take h
+
 -- a value that takes no tree adds nothing to what is ahead
 pub lightens_gives : {A : Type 0} (v : A) → Lightens (gives v)
 lightens_gives v = record { less = λ a b w e. let k : a ≡ b = cc in rw k (omega arith) }
 
--- a parser that always fails at the next token adds nothing to what is ahead
-pub lightens_refuses : {A : Type 0} (words : List ℕ) → Lightens {A = A} (refuses words)
-lightens_refuses words = record { less = λ a b w e. absurd (cc) }
+-- a parser that always fails at the next token finds no value
+pub lessens_refuses : {strict : Bool} {A : Type 0} (words : List ℕ)
+    → Lessens strict {A = A} (refuses words)
+lessens_refuses words = record { less = λ a b w e. absurd (cc) }
 
--- a parser that always fails at a given span adds nothing to what is ahead
-pub lightens_refuses_at : {A : Type 0} (span : Span) (words : List ℕ)
-    → Lightens {A = A} (refuses_at span words)
-lightens_refuses_at span words = record { less = λ a b w e. absurd (cc) }
+-- nor does one that always fails at a given span
+pub lessens_refuses_at : {strict : Bool} {A : Type 0} (span : Span) (words : List ℕ)
+    → Lessens strict {A = A} (refuses_at span words)
+lessens_refuses_at span words = record { less = λ a b w e. absurd (cc) }
 
--- two parsers in turn add nothing if neither does
-pub lightens_bind : {A B : Type 0} (m : Taking A) (k : A → Taking B) → Lightens m
-    → ((v : A) → Lightens (k v)) → Lightens (m >>= k)
-lightens_bind {A} {B} m k h g = record { less = λ a b w e. go a b w (m a) refl e } where
+-- two steps lessen a number if one of them does, and the other does not add to it
+less_less : (x y : Bool) (n m k : ℕ) → Less x m n → Less y k m → Less (x || y) k n
+less_less false false n m k h g = omega (arith, h, g)
+less_less false true n m k h g = omega (arith, h, g)
+less_less true false n m k h g = omega (arith, h, g)
+less_less true true n m k h g = omega (arith, h, g)
+
+-- two parsers in turn take something if one does and the other adds nothing; they add nothing if
+-- neither does
+pub lessens_then : (x y : Bool) {A B : Type 0} (m : Taking A) (k : A → Taking B) → Lessens x m
+    → ((v : A) → Lessens y (k v)) → Lessens (x || y) (m >>= k)
+lessens_then x y {A} {B} m k h g = record { less = λ a b w e. go a b w (m a) refl e } where
   go : (a b : Ahead) (w : B) (o : Outcome A) → m a ≡ o → and_then o k ≡ found w b
-      → weight b.trees ≤ weight a.trees
+      → Less (x || y) (weight b.trees) (weight a.trees)
   go a b w (missing m) e f = absurd (cc)
-  go a b w (found v c) e f = omega (arith, h.less a c v e, (g v).less c b w f)
-
--- a choice adds nothing if neither branch does
-pub lightens_where : {A : Type 0} (test : Ahead → Bool) (m n : Taking A) → Lightens m → Lightens n
-    → Lightens (where_ahead test m n)
-lightens_where {A} test m n h g = record { less = λ a b w e. go a b w (test a) e } where
-  go : (a b : Ahead) (w : A) (c : Bool) → cond c (m a) (n a) ≡ found w b
-      → weight b.trees ≤ weight a.trees
-  go a b w true e = h.less a b w e
-  go a b w false e = g.less a b w e
+  go a b w (found v c) e f =
+      less_less x y (weight a.trees) (weight c.trees) (weight b.trees) (h.less a c v e)
+      ((g v).less c b w f)
 
 -- two parsers in turn take something if the first does, and the second adds nothing
-pub lowers_bind : {A B : Type 0} (m : Taking A) (k : A → Taking B) → Lowers m
-    → ((v : A) → Lightens (k v)) → Lowers (m >>= k)
-lowers_bind {A} {B} m k h g = record { less = λ a b w e. go a b w (m a) refl e } where
-  go : (a b : Ahead) (w : B) (o : Outcome A) → m a ≡ o → and_then o k ≡ found w b
-      → weight b.trees < weight a.trees
-  go a b w (missing m) e f = absurd (cc)
-  go a b w (found v c) e f = omega (arith, h.less a c v e, (g v).less c b w f)
+pub lessens_bind : {strict : Bool} {A B : Type 0} (m : Taking A) (k : A → Taking B)
+    → Lessens strict m → ((v : A) → Lightens (k v)) → Lessens strict (m >>= k)
+lessens_bind {strict = false} m k h g = lessens_then false false m k h g
+lessens_bind {strict = true} m k h g = lessens_then true false m k h g
 
--- a choice takes something if both branches do
-pub lowers_where : {A : Type 0} (test : Ahead → Bool) (m n : Taking A) → Lowers m → Lowers n
-    → Lowers (where_ahead test m n)
-lowers_where {A} test m n h g = record { less = λ a b w e. go a b w (test a) e } where
-  go : (a b : Ahead) (w : A) (c : Bool) → cond c (m a) (n a) ≡ found w b
-      → weight b.trees < weight a.trees
+-- a choice takes something if both branches do; it adds nothing if neither branch does
+pub lessens_where : {strict : Bool} {A : Type 0} (test : Ahead → Bool) (m n : Taking A)
+    → Lessens strict m → Lessens strict n → Lessens strict (where_ahead test m n)
+lessens_where {strict} {A} test m n h g = record { less = λ a b w e. go a b w (test a) e } where
+  go : (a b : Ahead) (w : A) (c : Bool) → (if c then m a else n a) ≡ found w b
+      → Less strict (weight b.trees) (weight a.trees)
   go a b w true e = h.less a b w e
   go a b w false e = g.less a b w e
 
--- reads
+-- a read of trees, with the trees after them
 abbrev Reading : Type 0
 Reading = Forest → Option (List Tree × Forest)
 
@@ -100,7 +104,8 @@ some-rest {A} {B} {x} {y} e = let k : x ≡ y = cc in ap (λ p. p.1) k
 pub if-shorter : (wanted : Tree → Bool) → Shorter (first_if wanted)
 if-shorter wanted no_trees r e = absurd (cc)
 if-shorter wanted (tree t f) r e = go (wanted t) e where
-  go : (b : Bool) → cond b (Some (t ∷ [], f)) None ≡ Some r → weight r.1 < weight (tree t f)
+  go : (b : Bool) → (if b then Some (t ∷ [], f) else None) ≡ Some r
+      → weight r.1 < weight (tree t f)
   go true e = subst (λ g. weight g < weight (tree t f)) (some-rest e) (omega (arith, tree-counts t))
   go false e = absurd (cc)
 
@@ -146,69 +151,57 @@ by-lowers {T} read means lack h = record { less = λ a b v e. go a b v (read a.t
       let m : record { trees = r.1; unread = a.unread } ≡ b = cc in
       subst (λ (c : Ahead). weight c.trees < weight a.trees) m (h a.trees r k)
 
--- each parser of a token takes something
-pub lowers_ident : Lowers take_ident
-unfolding take_ident
-lowers_ident = by-lowers _ _ _ (if-shorter _)
+-- a parse of a token takes something
+pub lowers_token : {A : Type 0} (t : Kind A) → Lowers (take_token t)
+unfolding take_token
+lowers_token ident = by-lowers _ _ _ (if-shorter _)
+lowers_token any_ident = by-lowers _ _ _ (if-shorter _)
+lowers_token lifetime = by-lowers _ _ _ (lifetime-shorter _)
+lowers_token any_lifetime = by-lowers _ _ _ (lifetime-shorter _)
+lowers_token literal = by-lowers _ _ _ (if-shorter _)
+lowers_token punct = by-lowers _ _ _ (if-shorter _)
+lowers_token (own text) = by-lowers _ _ _ (word-shorter _)
+lowers_token (keyword k) = by-lowers _ _ _ (word-shorter _)
+lowers_token (punctuation k n) = by-lowers _ _ _ (puncts-shorter _)
 
-pub lowers_any_ident : Lowers take_any_ident
-unfolding take_any_ident
-lowers_any_ident = by-lowers _ _ _ (if-shorter _)
+-- a parse of a token adds nothing to what is ahead
+pub lightens_token : {A : Type 0} (t : Kind A) → Lightens (take_token t)
+lightens_token t = lightens_lower (take_token t) (lowers_token t)
 
-pub lowers_lifetime : Lowers take_lifetime
-unfolding take_lifetime
-lowers_lifetime = by-lowers _ _ _ (lifetime-shorter _)
+-- delimiters that are compared as equal are equal
+same_is : (d c : Delimiter) → same_delimiter d c ≡ true → c ≡ d
+same_is Parenthesis Parenthesis h = refl
+same_is Brace Brace h = refl
+same_is Bracket Bracket h = refl
+same_is delimiter.None delimiter.None h = refl
+same_is d c h = absurd (false≢true h)
 
-pub lowers_any_lifetime : Lowers take_any_lifetime
-unfolding take_any_lifetime
-lowers_any_lifetime = by-lowers _ _ _ (lifetime-shorter _)
-
-pub lowers_punct : Lowers take_punct
-unfolding take_punct
-lowers_punct = by-lowers _ _ _ (if-shorter _)
-
-pub lowers_underscore : Lowers take_underscore
-unfolding take_underscore
-lowers_underscore =
-    by-lowers (first_keyword (codes "_")) span_in
-    (missing_next (expected (in_backquotes (codes "_"))))
-    (word-shorter (codes "_"))
-
-pub lowers_literal : Lowers take_literal
-unfolding take_literal
-lowers_literal = by-lowers _ _ _ (if-shorter _)
-
-pub lowers_keyword : (k : ℕ) → Lowers (take_keyword k)
-unfolding take_keyword
-lowers_keyword k = by-lowers _ _ _ (word-shorter _)
-
-pub lowers_own : (text : List ℕ) → Lowers (take_own text)
-unfolding take_own
-lowers_own text = by-lowers _ _ _ (word-shorter _)
-
-pub lowers_punctuation : (k n : ℕ) → Lowers (take_punctuation k n)
-unfolding take_punctuation
-lowers_punctuation k n = by-lowers _ _ _ (puncts-shorter _)
+-- the first group is the first tree, and has the delimiter that is asked for
+pub group_is_first : (d : Delimiter) (f : Forest) (e : EnteredWith Forest)
+    → first_group d f ≡ Some e → (f ≡ tree (group d e.content e.span) e.after) × (e.delimiter ≡ d)
+group_is_first d no_trees e h = absurd (cc)
+group_is_first d (tree (leaf l) f) e h = absurd (cc)
+group_is_first d (tree (group c inside span) f) e h = go (same_delimiter d c) refl h where
+  go : (b : Bool) → same_delimiter d c ≡ b
+      → (if b then Some (record { delimiter = c; span = span; content = inside; after = f })
+      else None)
+      ≡ Some e
+      → (tree (group c inside span) f ≡ tree (group d e.content e.span) e.after)
+      × (e.delimiter ≡ d)
+  go true k m =
+      let x : record { delimiter = c; span = span; content = inside; after = f } ≡ e = cc in (
+        ap (λ z. tree (group z inside span) f) (same_is d c k)
+            ∙ ap (λ (y : EnteredWith Forest). tree (group d y.content y.span) y.after) x,
+        ap (λ (y : EnteredWith Forest). y.delimiter) (sym x) ∙ same_is d c k,
+      )
+  go false k m = absurd (cc)
 
 -- a group weighs more than what is inside and what is after it
 pub group_weighs : (d : Delimiter) (f : Forest) (e : EnteredWith Forest) → first_group d f ≡ Some e
     → weight e.content + weight e.after < weight f
-group_weighs d no_trees e h = absurd (cc)
-group_weighs d (tree (leaf l) f) e h = absurd (cc)
-group_weighs d (tree (group c inside span) f) e h = go (same_delimiter d c) h where
-  parts : EnteredWith Forest
-  parts = record { delimiter = c; span = span; content = inside; after = f }
-
-  go : (b : Bool)
-      → cond b (Some (record { delimiter = c; span = span; content = inside; after = f })) None
-      ≡ Some e
-      → weight e.content + weight e.after < weight (tree (group c inside span) f)
-  go true k =
-      let m : record { delimiter = c; span = span; content = inside; after = f } ≡ e = cc in
-      subst
-      (λ (x : EnteredWith Forest). weight x.content + weight x.after
-      < weight (tree (group c inside span) f)) m (omega arith)
-  go false k = absurd (cc)
+group_weighs d f e h =
+    subst (λ g. weight e.content + weight e.after < weight g) (sym (group_is_first d f e h).0)
+    (omega arith)
 
 -- a parser of a group takes something, even if the group is empty
 pub lowers_group : {A : Type 0} (d : Delimiter) (inner : Taking A) → Lowers (take_group d inner)
@@ -230,73 +223,20 @@ lowers_group {A} d inner =
           subst (λ f. weight f < weight a.trees) (inside a b v x _ e)
           (omega (arith, group_weighs d a.trees x k))
 
--- no parser of a token or a group adds anything to what is ahead
-pub lightens_ident : Lightens take_ident
-lightens_ident = lightens_lower take_ident lowers_ident
-
-pub lightens_any_ident : Lightens take_any_ident
-lightens_any_ident = lightens_lower take_any_ident lowers_any_ident
-
-pub lightens_lifetime : Lightens take_lifetime
-lightens_lifetime = lightens_lower take_lifetime lowers_lifetime
-
-pub lightens_any_lifetime : Lightens take_any_lifetime
-lightens_any_lifetime = lightens_lower take_any_lifetime lowers_any_lifetime
-
-pub lightens_punct : Lightens take_punct
-lightens_punct = lightens_lower take_punct lowers_punct
-
-pub lightens_underscore : Lightens take_underscore
-lightens_underscore = lightens_lower take_underscore lowers_underscore
-
-pub lightens_literal : Lightens take_literal
-lightens_literal = lightens_lower take_literal lowers_literal
-
-pub lightens_keyword : (k : ℕ) → Lightens (take_keyword k)
-lightens_keyword k = lightens_lower (take_keyword k) (lowers_keyword k)
-
-pub lightens_own : (text : List ℕ) → Lightens (take_own text)
-lightens_own text = lightens_lower (take_own text) (lowers_own text)
-
-pub lightens_punctuation : (k n : ℕ) → Lightens (take_punctuation k n)
-lightens_punctuation k n = lightens_lower (take_punctuation k n) (lowers_punctuation k n)
-
+-- a parse of a group adds nothing to what is ahead
 pub lightens_group : {A : Type 0} (d : Delimiter) (inner : Taking A) → Lightens (take_group d inner)
 lightens_group d inner = lightens_lower (take_group d inner) (lowers_group d inner)
 
--- with these `search` proves it of what is built of tokens and groups
+-- with these, `search` proves that what is built of tokens and groups adds nothing
 pub ruleset lightening = (
   lightens_gives,
-  lightens_refuses,
-  lightens_refuses_at,
-  lightens_bind,
-  lightens_where,
-  lightens_ident,
-  lightens_any_ident,
-  lightens_lifetime,
-  lightens_any_lifetime,
-  lightens_punct,
-  lightens_underscore,
-  lightens_literal,
-  lightens_keyword,
-  lightens_own,
-  lightens_punctuation,
+  lessens_refuses,
+  lessens_refuses_at,
+  lessens_bind,
+  lessens_where,
+  lightens_token,
   lightens_group,
 )
 
-pub ruleset lowering = (
-  lightening,
-  lowers_bind,
-  lowers_where,
-  lowers_ident,
-  lowers_any_ident,
-  lowers_lifetime,
-  lowers_any_lifetime,
-  lowers_punct,
-  lowers_underscore,
-  lowers_literal,
-  lowers_keyword,
-  lowers_own,
-  lowers_punctuation,
-  lowers_group,
-)
+-- with these, `search` proves that it takes something
+pub ruleset lowering = (lightening, lowers_token, lowers_group)

@@ -1,5 +1,5 @@
 -- Calls of a loop, which parses values in turn.
-use Rattle.std.specs.Prelude.{◌≡◌, ℕ, ◌+◌, ◌-◌, Bool, true, false, List, [], ◌∷◌, ◌++◌}
+use Rattle.std.specs.Prelude.{◌≡◌, ◌≤◌, ℕ, ◌+◌, ◌-◌, Bool, true, false, List, [], ◌∷◌, ◌++◌}
 use Rattle.std.specs.Prelude.{Result, Ok, Err, codes, length}
 use Rattle.std.specs.Global.{Vec}
 use Rattle.tok_buffer.specs.Messages.{message_at}
@@ -23,38 +23,36 @@ pub data Parsed {T : Type 0} (goes_on : Place → Type 0) (parses : Call T) (s :
       (vs : List T) (m : State) (v : T) (t : State) → Parsed goes_on parses s vs m
       → goes_on m.place → parses m (Ok v) t → Parsed goes_on parses s (vs ++ v ∷ []) t
 
--- How a loop ends, and the stream that it leaves. It `stops` with an error after so many values,
--- the last of which left this place.
-pub data Loops {T : Type 0} (goes_on ends : Place → Type 0) (stops : ℕ → Place → Type 0)
-    (parses : Call T) (s : State) : Result (Vec T) Fault → State → Type 0 where
-  -- it returns the values, since no other one is parsed
+-- how many leaves and edges are left up to the scope's end
+abbrev pub tokens_left : Place → ℕ
+tokens_left p = remaining p - 1
+
+-- how a loop ends, and the stream that it leaves
+pub data Loops {T : Type 0} (goes_on ends : Place → Type 0) (parses : Call T) (s : State)
+    : Result (Vec T) Fault → State → Type 0 where
+  -- it returns the values, since no other one is parsed, and they are no more than the leaves and
+  -- edges that were left
   ended :
       (vs : Vec T) (t : State) → Parsed goes_on parses s vs.items t → ends t.place
-      → Loops goes_on ends stops parses s (Ok vs) t
+      → length vs.items ≤ tokens_left s.place → Loops goes_on ends parses s (Ok vs) t
   -- it fails with a value's error, and the stream is where that value left it
   refused :
       (vs : List T) (m : State) (f : Fault) (t : State) → Parsed goes_on parses s vs m
-      → goes_on m.place → parses m (Err f) t → Loops goes_on ends stops parses s (Err f) t
+      → goes_on m.place → parses m (Err f) t → Loops goes_on ends parses s (Err f) t
   -- it fails for want of memory, after a value
   lost :
       (vs : List T) (v : T) (f : Fault) (t : State) → Parsed goes_on parses s (vs ++ v ∷ []) t
-      → IsMemory f → Loops goes_on ends stops parses s (Err f) t
-  -- it stops, after a value that made no progress
+      → IsMemory f → Loops goes_on ends parses s (Err f) t
+  -- it fails after one value more than leaves and edges were left
   stuck :
       (vs : List T) (f : Fault) (t : State) → Parsed goes_on parses s vs t
-      → stops (length vs) t.place → Refuses (nothing_taken t) f
-      → Loops goes_on ends stops parses s (Err f) t
-
--- as many values as `remaining` counts at a place: one more than leaves and edges are left
-abbrev pub IsOneMore : Place → ℕ → Place → Type 0
-IsOneMore start count here = count ≡ remaining start - 1 + 1
+      → length vs ≡ tokens_left s.place + 1 → Refuses (nothing_taken t) f
+      → Loops goes_on ends parses s (Err f) t
 
 -- values as long as a peek is true
 abbrev pub LoopsWhile : {T : Type 0} → (Place → Bool → Type 0) → Call T → Call (Vec T)
-LoopsWhile peeks parses s =
-    Loops (λ p. peeks p true) (λ p. peeks p false) (IsOneMore s.place) parses s
+LoopsWhile peeks = Loops (λ p. peeks p true) (λ p. peeks p false)
 
 -- values up to the end; an empty invisible group is not the end
 abbrev pub LoopsToEnd : {T : Type 0} → Call T → Call (Vec T)
-LoopsToEnd parses s =
-    Loops (λ p. is_at_end p ≡ false) (λ p. is_at_end p ≡ true) (IsOneMore s.place) parses s
+LoopsToEnd = Loops (λ p. is_at_end p ≡ false) (λ p. is_at_end p ≡ true)

@@ -1,13 +1,13 @@
 -- Values that hold values of their own kind: how they are taken, by what is taken within them.
-use Rattle.std.proofs.Common.{◌≡◌, ◌∙◌, ap, refl, arith, ℕ, zero, suc, ◌+◌, ◌<◌, Bool, cond}
+use Rattle.std.proofs.Common.{◌≡◌, ◌∙◌, ap, refl, arith, ℕ, zero, suc, ◌+◌, ◌<◌, Bool, if◌then◌else◌}
 use Rattle.std.proofs.Common.{Option, Some, None, []}
 use Rattle.tok_lexical.specs.declared.delimiter.Delimiter.{Delimiter}
 use Rattle.tok_core.specs.Weight.{weight}
 use Rattle.tok_core.specs.Forest.{Forest}
 use Rattle.tok_buffer.specs.Entry.{EnteredWith}
 use Rattle.tok_buffer.specs.InFront.{first_group}
-use Rattle.syn_parse.specs.Lighter.{group_weighs, lightens_bind, lightens_group, lightens_lower}
-use Rattle.syn_parse.specs.Lighter.{lightens_where, lowering}
+use Rattle.syn_parse.specs.Lighter.{group_weighs, lessens_bind, lessens_where, lightens_group}
+use Rattle.syn_parse.specs.Lighter.{lightens_lower, lowering}
 use Rattle.syn_parse.specs.Takes.{Outcome, Taking, found, missing, and_then, ◌>>=◌, where_ahead}
 use Rattle.syn_parse.specs.Takes.{after_inside, inside_first, refuses, take_group}
 use Rattle.syn_parse.specs.Takings.{Lightens, Lowers}
@@ -51,7 +51,7 @@ pub descends_bind : (slack : ℕ) {A B C : Type 0} (step : Taking A → Taking B
     (k : Taking A → B → Taking C) → Descends slack step
     → ((v : B) → Descends slack (λ m. k m v)) → Descends slack (λ m. step m >>= k m)
 descends_bind slack step k h g = record {
-  light = λ m l. lightens_bind (step m) (k m) (h.light m l) (λ v. (g v).light m l);
+  light = λ m l. lessens_bind (step m) (k m) (h.light m l) (λ v. (g v).light m l);
   same = λ m n l j a e.
       ap (λ o. and_then o (k m)) (h.same m n l j a e)
       ∙ on_found (step n a) (k m) (k n) (λ v b f. (g v).same m n l j b
@@ -62,7 +62,7 @@ descends_bind slack step k h g = record {
 pub descends_after : {A B C : Type 0} (token : Taking B) (k : Taking A → B → Taking C)
     → Lowers token → ((v : B) → Descends 1 (λ m. k m v)) → Descends 0 (λ m. token >>= k m)
 descends_after token k h g = record {
-  light = λ m l. lightens_bind token (k m) (lightens_lower token h) (λ v. (g v).light m l);
+  light = λ m l. lessens_bind token (k m) (lightens_lower token h) (λ v. (g v).light m l);
   same = λ m n l j a e.
       on_found (token a) (k m) (k n) (λ v b f. (g v).same m n l j b
       (λ c w. e c (omega (arith, w, h.less a b v f))));
@@ -72,10 +72,10 @@ descends_after token k h g = record {
 pub descends_where : (slack : ℕ) {A B : Type 0} (test : Ahead → Bool) (f g : Taking A → Taking B)
     → Descends slack f → Descends slack g → Descends slack (λ m. where_ahead test (f m) (g m))
 descends_where slack test f g h k = record {
-  light = λ m l. lightens_where test (f m) (g m) (h.light m l) (k.light m l);
+  light = λ m l. lessens_where test (f m) (g m) (h.light m l) (k.light m l);
   same = λ m n l j a e.
-      ap (λ o. cond (test a) o (g m a)) (h.same m n l j a e)
-      ∙ ap (λ o. cond (test a) (f n a) o) (k.same m n l j a e);
+      ap (λ o. if test a then o else g m a) (h.same m n l j a e)
+      ∙ ap (λ o. if test a then f n a else o) (k.same m n l j a e);
 }
 
 -- within a group less is ahead
@@ -116,6 +116,7 @@ unfoldable pub take_nested : {A : Type 0} → (Taking A → Taking A) → Taking
 take_nested step a = levels (suc (weight a.trees)) step a
 
 module _ {A : Type 0} (step : Taking A → Taking A) (inwards : Descends 0 step) where
+  -- no more is ahead after a value of so many levels
   lightens_levels : (n : ℕ) → Lightens (levels n step)
   lightens_levels zero = record { less = λ a b v e. absurd (cc) }
   lightens_levels (suc n) = inwards.light (levels n step) (lightens_levels n)
@@ -142,3 +143,11 @@ module _ {A : Type 0} (step : Taking A → Taking A) (inwards : Descends 0 step)
       inwards.same (levels (weight a.trees) step) (λ b. levels (suc (weight b.trees)) step b)
       (lightens_levels (weight a.trees)) lightens_nested a
       (λ b w. enough (weight a.trees) (suc (weight b.trees)) b (omega (arith, w)) (omega arith))
+
+  -- a nested value takes something, if each level does
+  pub lowers_nested : ((m : Taking A) → Lightens m → Lowers (step m)) → Lowers (take_nested step)
+  unfolding take_nested
+  lowers_nested each = record {
+    less = λ a b v e.
+        (each (levels (weight a.trees) step) (lightens_levels (weight a.trees))).less a b v e;
+  }

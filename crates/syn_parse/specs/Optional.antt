@@ -1,10 +1,11 @@
 -- A value that is taken if its peek is true, and else nothing.
-use Rattle.std.specs.Prelude.{Bool, Option, None, Some, option_map}
+use Rattle.std.specs.Prelude.{ℕ, Bool, Option, None, Some, option_map}
 use Rattle.tok_core.specs.Forest.{Forest}
-use Rattle.syn_parse.specs.Lighter.{lightens_bind, lightens_gives, lightens_lower, lightens_where}
+use Rattle.syn_parse.specs.Lighter.{lessens_bind, lessens_where, lightens, lightens_gives}
+use Rattle.syn_parse.specs.Nested.{Descends, descends_bind, descends_same, descends_where}
 use Rattle.syn_parse.specs.Takes.{Taking, ◌>>=◌, gives, where_ahead}
-use Rattle.syn_parse.specs.Takings.{Lightens, Takings, Weighs, lighter, lower, told, told_filled}
-use Rattle.syn_parse.specs.Takings.{untold, unweighed}
+use Rattle.syn_parse.specs.Takings.{Lightens, Takings, Weighs, lighter, stated, untold, unweighed}
+use Rattle.syn_parse.specs.Takings.{weighs}
 use Rattle.syn_parse.specs.TreesAhead.{Ahead}
 
 -- a value if the test is true, and else nothing
@@ -19,24 +20,30 @@ pub lightens_optional : {A : Type 0} (test : Ahead → Bool) (take : Taking A) �
     → Lightens (take_optional test take)
 unfolding take_optional
 lightens_optional test take h =
-    lightens_where test _ _
-    (lightens_bind take _ h (λ v. lightens_gives (Some v)))
+    lessens_where test _ _
+    (lessens_bind take _ h (λ v. lightens_gives (Some v)))
     (lightens_gives None)
+
+-- an option asks no more of the parser that it is made of than its value does
+pub descends_optional : (slack : ℕ) {A B : Type 0} (test : Ahead → Bool)
+    (take : Taking A → Taking B) → Descends slack take
+    → Descends slack (λ m. take_optional test (take m))
+unfolding take_optional
+descends_optional slack test take h =
+    descends_where slack test _ _
+    (descends_bind slack take _ h (λ v. descends_same slack _ (lightens_gives (Some v))))
+    (descends_same slack _ (lightens_gives None))
 
 -- an option adds nothing if its value doesn't; it may take nothing even if its value never does
 abbrev pub optional_weighs : {A : Type 0} (test : Ahead → Bool) (take : Taking A) → Weighs take
     → Weighs (take_optional test take)
 optional_weighs test take unweighed = unweighed
-optional_weighs test take (lighter h) = lighter (lightens_optional test take h)
-optional_weighs test take (lower h) = lighter (lightens_optional test take (lightens_lower take h))
+optional_weighs test take (weighs strict h) =
+    lighter (lightens_optional test take (lightens strict take h))
 
 -- what an `Option` states, by what its type states
 abbrev pub optional : {T : Type 0} → Option (Forest → Bool) → Takings T → Takings (Option T)
-optional None takes = untold
-optional (Some test) untold = untold
-optional (Some test) (told form take weighs) =
-    told (option_map form) (take_optional (λ a. test a.trees) take)
-    (optional_weighs (λ a. test a.trees) take weighs)
-optional (Some test) (told_filled form take weighs) =
-    told_filled (option_map form) (take_optional (λ a. test a.trees) take)
-    (optional_weighs (λ a. test a.trees) take weighs)
+optional (Some test) (stated filled_alone form take weighing) =
+    stated filled_alone (option_map form) (take_optional (λ a. test a.trees) take)
+    (optional_weighs (λ a. test a.trees) take weighing)
+optional sees takes = untold

@@ -12,13 +12,13 @@ use Rattle.syn_parse.specs.Parses.{WordParses, PunctuationParses}
 use Rattle.syn_parse.specs.Reads.{Call}
 use Rattle.syn_parse.specs.State.{State}
 
--- of one kind of parse
+-- a parse of one kind that returns a value stays in the scope, and leaves less
 pub record ParsesOn {T : Type 0} (parses : Call T) : Type 0 where
   pub stays : (s : State) (v : T) (t : State) → parses s (Ok v) t → StaysIn s.place t.place
   pub lowers :
       (s : State) (v : T) (t : State) → parses s (Ok v) t → remaining t.place < remaining s.place
 
--- a keyword, a punctuation, `_`
+-- the parse of keyword `k`
 abbrev pub KeywordParses : (k : ℕ) → Call (Keyword k)
 KeywordParses k = WordParses (λ w. w.span) (keyword_text k)
 
@@ -31,7 +31,7 @@ PunctuationTypeParses k n =
 abbrev pub UnderscoreParses : Call Underscore
 UnderscoreParses = WordParses (λ u. first_span u.spans) (codes "_")
 
--- of each kind
+-- the parses of all kinds stay in the scope, and leave less
 pub record ParsesGoOn : Type 0 where
   pub idents : ParsesOn IdentParses
   pub any_idents : ParsesOn AnyIdentParses

@@ -6,7 +6,7 @@ use Rattle.tok_core.specs.Weight.{weight}
 use Rattle.tok_buffer.specs.Place.{Place}
 use Rattle.tok_buffer.specs.Reads.{place_after}
 use Rattle.tok_buffer.specs.Trees.{read_visible}
-use Rattle.syn_parse.specs.Lighter.{lightens_bind, lightens_gives}
+use Rattle.syn_parse.specs.Lighter.{lessens_bind, lightens_gives}
 use Rattle.syn_parse.specs.Takes.{Taking, ◌>>=◌, found, gives}
 use Rattle.syn_parse.specs.Takings.{Lightens}
 use Rattle.syn_parse.specs.TreesAhead.{Ahead}
@@ -72,5 +72,5 @@ pub lightens_run : {S : Type 0} (step : S → Forest → Option S) (s : S)
     → Lightens (take_run step s)
 unfolding take_run
 lightens_run step s =
-    lightens_bind (take_run_with_state step s) _ (lightens_run_with_state step s)
+    lessens_bind (take_run_with_state step s) _ (lightens_run_with_state step s)
     (λ r. lightens_gives r.0)

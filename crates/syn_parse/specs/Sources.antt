@@ -1,5 +1,5 @@
 -- Parsers over the texts of sources, whose end is behind the last token.
-use Rattle.std.specs.Prelude.{ℕ, List, Result, Ok, Err, MatchResult, ◌⊎◌}
+use Rattle.std.specs.Prelude.{ℕ, List, Result, Ok, Err, ◌⊎◌}
 use Rattle.tok_buffer.specs.Spans.{last_span}
 use Rattle.tok_core.specs.Forest.{Forest}
 use Rattle.tok_core.specs.Lexical.Outcome.{FollowsSource}
@@ -11,8 +11,7 @@ use Rattle.tok_leaves.specs.declared.span.Origin.TheVariants.{CallSite, Source}
 use Rattle.tok_leaves.specs.declared.span.Span.{Span}
 use Rattle.tok_lexical.specs.declared.edition.Edition.{Edition}
 use Rattle.tok_lexical.specs.declared.rule.Mode.TheVariants.{Plain}
-use Rattle.syn_parse.specs.Faults.{FailsWith}
-use Rattle.syn_parse.specs.Parsers.{IsUnread, OnMemory, ParsesWhole, lex_message, whole_stream}
+use Rattle.syn_parse.specs.Parsers.{FailsExplained, FailsToLex, OnMemory, ParsesWhole, whole_stream}
 use Rattle.syn_parse.specs.Reads.{Call}
 use Rattle.syn_parse.specs.State.{State}
 use Rattle.syn_parse.specs.Takings.{KeepsTextTo, KeepsWhole, Takings}
@@ -36,43 +35,46 @@ abbrev pub OnTextOf : ℕ → (State → Type 0) → List ℕ → Type 0
 OnTextOf number holds text =
     (f : Forest) → grammar.ReadsForest Plain number text f → holds (source_stream number f)
 
--- The text of a source reads as a forest, which is parsed; or the grammar rejects it, with this
--- error; or an allocation fails.
+-- The text of a source reads as a forest, which is parsed; or the grammar rejects it, and its error
+-- is explained; or an allocation fails.
 abbrev pub ParsesTextOf : {T : Type 0} → ℕ → Call T → List ℕ → Result T Fault → Type 0
 ParsesTextOf number parses text result =
     ((f : Forest) × grammar.ReadsForest Plain number text f
     × ParsesWhole parses (source_stream number f) result)
     ⊎ (((e : LexError) × grammar.IsRejected Plain number text e
-    × FailsWith (lex_message e) result)
+    × FailsExplained text e result)
     ⊎ OnMemory result)
 
 -- the text of a source keeps what is stated up to the end of its tokens
 abbrev pub KeepsTextOf : {T : Type 0} → ℕ → Takings T → List ℕ → Result T Fault → Type 0
-KeepsTextOf number = KeepsTextTo number (end_of_tokens number)
+KeepsTextOf number takes text =
+    KeepsTextTo number (end_of_tokens number) (FailsExplained text) takes text
 
 -- what holds of the stream of a Rust source's tokens, if the source has any
 abbrev pub OnSource : Edition → (State → Type 0) → List ℕ → Type 0
 OnSource edition holds text =
     (f : Forest) → FollowsSource edition 0 text (Ok f) → holds (source_stream 0 f)
 
--- the tokens that were read are parsed, or the lexer's fault is returned
-abbrev pub ParsesRead : {T : Type 0} → Call T → Result Forest LexFault → Result T Fault → Type 0
-ParsesRead parses (Ok f) result = ParsesWhole parses (source_stream 0 f) result
-ParsesRead parses (Err why) result = MatchResult result (λ _. ⊥) (IsUnread why)
+-- the tokens that were read of a text are parsed, or the lexer's fault is explained
+abbrev pub ParsesRead : {T : Type 0} → Call T → (text : List ℕ) → Result Forest LexFault
+    → Result T Fault → Type 0
+ParsesRead parses text (Ok f) result = ParsesWhole parses (source_stream 0 f) result
+ParsesRead parses text (Err why) result = FailsToLex text why result
 
 -- a Rust source of an edition is read, and its tokens are parsed
 abbrev pub ParsesSource : {T : Type 0} → Edition → Call T → List ℕ → Result T Fault → Type 0
 ParsesSource edition parses text result =
     (read : Result Forest LexFault) × FollowsSource edition 0 text read
-    × ParsesRead parses read result
+    × ParsesRead parses text read result
 
--- a parse of the tokens that were read keeps what is stated
-abbrev pub KeepsRead : {T : Type 0} → Takings T → Result Forest LexFault → Result T Fault → Type 0
-KeepsRead takes (Ok f) result = KeepsWhole takes f (end_of_tokens 0 f) result
-KeepsRead takes (Err why) result = MatchResult result (λ _. ⊥) (IsUnread why)
+-- a parse of the tokens that were read of a text keeps what is stated
+abbrev pub KeepsRead : {T : Type 0} → Takings T → (text : List ℕ) → Result Forest LexFault
+    → Result T Fault → Type 0
+KeepsRead takes text (Ok f) result = KeepsWhole takes f (end_of_tokens 0 f) result
+KeepsRead takes text (Err why) result = FailsToLex text why result
 
 -- a Rust source of an edition is read, and a parse of its tokens keeps what is stated
 abbrev pub KeepsSource : {T : Type 0} → Edition → Takings T → List ℕ → Result T Fault → Type 0
 KeepsSource edition takes text result =
     (read : Result Forest LexFault) × FollowsSource edition 0 text read
-    × KeepsRead takes read result
+    × KeepsRead takes text read result

@@ -1,6 +1,6 @@
 -- Parsers as functions of what is ahead.
 use Rattle.std.specs.Option.{option_or}
-use Rattle.std.specs.Prelude.{◌≡◌, ◌<◌, ◌≤◌, ℕ, Bool, true, cond, not, List, ◌++◌, codes}
+use Rattle.std.specs.Prelude.{◌≡◌, ◌<◌, ◌≤◌, ℕ, Bool, true, if◌then◌else◌, not, List, ◌++◌, codes}
 use Rattle.std.specs.Prelude.{IfSome, Option, Some, None, Result, Ok, Err, length}
 use Rattle.tok_lexical.specs.declared.delimiter.Delimiter.{Delimiter}
 use Rattle.tok_leaves.specs.declared.span.DelimSpan.{DelimSpan}
@@ -47,13 +47,14 @@ m >>= k = λ a. and_then (m a) k
 abbrev pub gives : {A : Type 0} → A → Taking A
 gives v = found v
 
--- one of two, by a test
+-- one taking if the test of what is ahead is true, else the other
 abbrev pub where_ahead : {A : Type 0} → (Ahead → Bool) → Taking A → Taking A → Taking A
-where_ahead test there other a = cond (test a) (there a) (other a)
+where_ahead test there other a = if test a then there a else other a
 
 -- a text that names the end if nothing is left
 abbrev pub or_end : List ℕ → Forest → List ℕ
-or_end words f = cond (not (has_trees f)) (codes "unexpected end of input, " ++ words) words
+or_end words f =
+    if not (has_trees f) then codes "unexpected end of input, " ++ words else words
 
 -- missing at the place with these trees ahead; the text names the end if none is ahead
 abbrev pub missing_next : List ℕ → Forest → Missing
@@ -155,32 +156,11 @@ TakesAs form take s (Err f) t = FailsAt s (take (ahead s)) f
 abbrev pub Takes : {T : Type 0} → Taking T → Call T
 Takes = TakesAs (λ v. v)
 
--- the form of this value is found, and this is ahead then
-abbrev pub Finds : {T A : Type 0} → (T → A → Type 0) → T → Ahead → Outcome A → Type 0
-Finds Is v b (found x c) = Is v x × (c ≡ b)
-Finds Is v b (missing m) = ⊥
-
--- a call returns a value that has the form that is taken; the form need not be a function of it
-abbrev pub TakesBy : {T A : Type 0} → (T → A → Type 0) → Taking A → Call T
-TakesBy Is take s (Ok v) t =
-    Finds Is v (ahead t) (take (ahead s)) × Stays s t
-TakesBy Is take s (Err f) t = FailsAt s (take (ahead s)) f
-
 -- less is ahead of a stream, and it is in a filled forest if the other one is
 abbrev pub IsWithin : (inner outer : State) → Type 0
 IsWithin inner outer =
     (weight (ahead inner).trees < weight (ahead outer).trees)
     × (IsFilled outer.place → IsFilled inner.place)
-
--- each call on a stream within this one returns a value that has the form that is taken
-abbrev pub TakeWithinBy : {T A : Type 0} → State → (T → A → Type 0) → Taking A → Call T → Type 0
-TakeWithinBy {T} start Is take calls =
-    (s : State) (r : Result T Fault) (t : State) → IsWithin s start → calls s r t
-    → TakesBy Is take s r t
-
--- a group's span and the form of what is inside
-abbrev pub Within : {T A : Type 0} → (T → A → Type 0) → DelimSpan × T → DelimSpan × A → Type 0
-Within Is v x = (x.0 ≡ v.0) × Is v.1 x.1
 
 -- an error says of a group's contents what it says outside of the group
 abbrev pub SaysOutside : (content : State) → Span → State → Type 0
@@ -226,7 +206,7 @@ RunsAhead {R} calls d s r t =
     IsVisibleDelimiter d → (inner : Taking R) → TakeWithin s (λ v. v) inner calls
     → Takes (take_group d inner) s r t
 
--- all trees are this
+-- all trees are taken, and this is their value
 abbrev pub IsAll : {A : Type 0} → Taking A → Forest → A → Type 0
 IsAll take f x = take (whole f) ≡ found x all_taken
 

@@ -1,5 +1,5 @@
 -- What a type states of its parser, by the visible trees ahead.
-use Rattle.std.specs.Prelude.{◌≡◌, ◌<◌, ◌≤◌, ◌⊎◌, ℕ, List, IfErr, Result, true}
+use Rattle.std.specs.Prelude.{◌≡◌, ◌<◌, ◌≤◌, ◌⊎◌, ℕ, Bool, true, false, List, IfErr, Result}
 use Rattle.std.specs.Global.{Box}
 use Rattle.tok_lexical.specs.declared.rule.Mode.TheVariants.{Plain}
 use Rattle.tok_leaves.specs.Spans.{call_site}
@@ -18,26 +18,52 @@ use Rattle.syn_parse.specs.Takes.{Agree, ErrorsAgree, MemoryOr, Taking, TakesAll
 use Rattle.syn_parse.specs.TreesAhead.{Ahead, IsFilled, whole}
 use Rattle.syn_parse.specs.declared.fault.Fault.{Fault}
 
--- no more is ahead
-pub record Lightens {A : Type 0} (take : Taking A) : Type 0 where
-  pub less : (a b : Ahead) (v : A) → take a ≡ found v b → weight b.trees ≤ weight a.trees
+-- at most this; or less, if the flag is set
+abbrev pub Less : (strict : Bool) → ℕ → ℕ → Type 0
+Less false n m = n ≤ m
+Less true n m = n < m
 
--- less is ahead
-pub record Lowers {A : Type 0} (take : Taking A) : Type 0 where
-  pub less : (a b : Ahead) (v : A) → take a ≡ found v b → weight b.trees < weight a.trees
+-- after a value no more is ahead than before it; or less, if the flag is set
+pub record Lessens (strict : Bool) {A : Type 0} (take : Taking A) : Type 0 where
+  pub less : (a b : Ahead) (v : A) → take a ≡ found v b
+      → Less strict (weight b.trees) (weight a.trees)
 
--- how much is known to be taken
+-- no more is ahead after a value than before it
+abbrev pub Lightens : {A : Type 0} → Taking A → Type 0
+Lightens = Lessens false
+
+-- less is ahead after a value than before it
+abbrev pub Lowers : {A : Type 0} → Taking A → Type 0
+Lowers = Lessens true
+
+-- what is known of how much is taken: nothing; that no more is ahead than before; or that less is
 pub data Weighs {A : Type 0} (take : Taking A) : Type 0 where
   unweighed : Weighs take
-  lighter : Lightens take → Weighs take
-  lower : Lowers take → Weighs take
+  weighs : (strict : Bool) → Lessens strict take → Weighs take
 
--- Nothing; or what is taken, and the form in which contracts see a value; or the same at places of
--- filled forests alone
+-- no more is ahead after a value
+pattern abbrev pub lighter : {A : Type 0} {take : Taking A} → Lightens take → Weighs take
+lighter h = weighs false h
+
+-- less is ahead after a value
+pattern abbrev pub lower : {A : Type 0} {take : Taking A} → Lowers take → Weighs take
+lower h = weighs true h
+
+-- What a type states: nothing; or what is taken, and the form in which contracts see a value. If
+-- the flag is set, it states this at places of filled forests alone.
 pub data Takings (T : Type 0) : Type 1 where
   untold : Takings T
-  told : {A : Type 0} (form : T → A) (take : Taking A) → Weighs take → Takings T
-  told_filled : {A : Type 0} (form : T → A) (take : Taking A) → Weighs take → Takings T
+  stated : {A : Type 0} (filled_alone : Bool) (form : T → A) (take : Taking A) → Weighs take
+      → Takings T
+
+-- what is taken everywhere, in a form, and how much
+pattern abbrev pub told : {T A : Type 0} → (T → A) → (take : Taking A) → Weighs take → Takings T
+told form take weighing = stated false form take weighing
+
+-- what is taken at places of filled forests alone
+pattern abbrev pub told_filled : {T A : Type 0} → (T → A) → (take : Taking A) → Weighs take
+    → Takings T
+told_filled form take weighing = stated true form take weighing
 
 -- something is stated
 abbrev pub IsTold : {T : Type 0} → Takings T → Type 0
@@ -48,7 +74,7 @@ IsTold takes = Unit {0}
 abbrev pub taken : {T : Type 0} → Taking T → Takings T
 taken take = told (λ v. v) take unweighed
 
--- it is taken in a form
+-- a value is taken in a form
 abbrev pub taken_as : {T A : Type 0} → (T → A) → Taking A → Takings T
 taken_as form take = told form take unweighed
 
@@ -56,41 +82,42 @@ taken_as form take = told form take unweighed
 abbrev pub taken_filled : {T A : Type 0} → (T → A) → Taking A → Takings T
 taken_filled form take = told_filled form take unweighed
 
+-- a claim, under this premise if the flag is set
+abbrev pub Under : Bool → Type 0 → Type 0 → Type 0
+Under false P Q = Q
+Under true P Q = P → Q
+
 -- a call keeps what is stated
 abbrev pub Keeps : {T : Type 0} → Takings T → Call T
 Keeps untold s r t = Unit {0}
-Keeps (told form take weighs) s r t = TakesAs form take s r t
-Keeps (told_filled form take weighs) s r t = IsFilled s.place → TakesAs form take s r t
+Keeps (stated filled_alone form take weighing) s r t =
+    Under filled_alone (IsFilled s.place) (TakesAs form take s r t)
 
 -- a box states what its value states
 abbrev pub boxed : {T : Type 0} → Takings T → Takings (Box T)
 boxed untold = untold
-boxed (told form take weighs) = told (λ b. form b.value) take weighs
-boxed (told_filled form take weighs) = told_filled (λ b. form b.value) take weighs
+boxed (stated filled_alone form take weighing) =
+    stated filled_alone (λ b. form b.value) take weighing
 
 -- a whole stream, whose end is at this span, keeps what is stated
 abbrev pub KeepsWhole : {T : Type 0} → Takings T → Forest → Span → Result T Fault → Type 0
 KeepsWhole untold f scope r = Unit {0}
-KeepsWhole (told form take weighs) f scope r = TakesAll form take f scope r
-KeepsWhole (told_filled form take weighs) f scope r =
-    filled f ≡ true → TakesAll form take f scope r
+KeepsWhole (stated filled_alone form take weighing) f scope r =
+    Under filled_alone (filled f ≡ true) (TakesAll form take f scope r)
 
 -- two streams that differ only in invisible groups agree
 abbrev pub KeepsBoth : {T : Type 0} → Takings T → (left right : Forest) → Result T Fault
     → Result T Fault → Type 0
 KeepsBoth untold left right x y = Unit {0}
-KeepsBoth (told form take weighs) left right x y = erase left ≡ erase right → Agree form x y
-KeepsBoth (told_filled form take weighs) left right x y =
-    erase left ≡ erase right → filled left ≡ true → filled right ≡ true → Agree form x y
+KeepsBoth (stated filled_alone form take weighing) left right x y =
+    erase left ≡ erase right → Under filled_alone (filled left ≡ true)
+    (Under filled_alone (filled right ≡ true) (Agree form x y))
 
 -- two errors agree, if each invisible group holds a visible tree
 abbrev pub KeepsWords : {T : Type 0} → Takings T → (left right : Forest) → Result T Fault
     → Result T Fault → Type 0
 KeepsWords untold left right x y = Unit {0}
-KeepsWords (told form take weighs) left right x y =
-    erase left ≡ erase right → filled left ≡ true → filled right ≡ true
-    → ErrorsAgree (take (whole left)) x y
-KeepsWords (told_filled form take weighs) left right x y =
+KeepsWords (stated filled_alone form take weighing) left right x y =
     erase left ≡ erase right → filled left ≡ true → filled right ≡ true
     → ErrorsAgree (take (whole left)) x y
 
@@ -99,16 +126,16 @@ abbrev pub HasOneMessage : {T : Type 0} → Takings T → Result T Fault → Typ
 HasOneMessage untold r = Unit {0}
 HasOneMessage takes r = IfErr r (λ f. MemoryOr f (Unit {0}))
 
--- The text of a source reads as a forest without invisible groups, which keeps what is stated, and
--- whose end is at a span of its own; or the grammar rejects it.
-abbrev pub KeepsTextTo : {T : Type 0} → ℕ → (Forest → Span) → Takings T → List ℕ
-    → Result T Fault → Type 0
-KeepsTextTo number end takes text r =
+-- The text of a source reads as a visible forest, which keeps what is stated up to this end. Or the
+-- grammar rejects it, and the result fails so.
+abbrev pub KeepsTextTo : {T : Type 0} → ℕ → (end : Forest → Span)
+    → (fails : LexError → Result T Fault → Type 0) → Takings T → List ℕ → Result T Fault → Type 0
+KeepsTextTo number end fails takes text r =
     ((f : Forest) × grammar.ReadsForest Plain number text f × IsAllVisible f
     × KeepsWhole takes f (end f) r)
-    ⊎ (((e : LexError) × grammar.IsRejected Plain number text e × FailsWith (lex_message e) r)
+    ⊎ (((e : LexError) × grammar.IsRejected Plain number text e × fails e r)
     ⊎ OnMemory r)
 
 -- a text as source 0, with its end at the call site
 abbrev pub KeepsText : {T : Type 0} → Takings T → List ℕ → Result T Fault → Type 0
-KeepsText = KeepsTextTo 0 (λ f. call_site)
+KeepsText = KeepsTextTo 0 (λ f. call_site) (λ e r. FailsWith (lex_message e) r)

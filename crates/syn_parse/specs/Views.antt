@@ -23,7 +23,7 @@ abbrev pub ViewsDecideWords : Type 0
 ViewsDecideWords =
     (b c : Laid) (s t : State) → SameView b c s.place t.place → WordsAgree s t
 
--- and two lookaheads there that have noted the same displays
+-- so have the errors of two lookaheads that have noted the same displays
 abbrev pub ViewsDecideLookaheads : Type 0
 ViewsDecideLookaheads =
     (b c : Laid) (l m : LookaheadView) → SameView b c l.place m.place → l.missed ≡ m.missed

@@ -1,4 +1,4 @@
-//! A value after a token that may be missing, and a peek into a group.
+//! A method that parses a value after an optional token, and a method that peeks into a group.
 ghost use Rattle.syn_parse.specs.After.{after};
 ghost use Rattle.syn_parse.specs.Inside.{PeeksInside, inside};
 ghost use Rattle.syn_parse.specs.Reads.{BothParse, Does, OptionParses};
@@ -13,7 +13,10 @@ use tok_core::Delimiter;
 use tok_types::token::Token;
 
 impl<'a> ParseBuffer<'a> {
-    /// Parses this token and a value after it if the token is next, and else nothing.
+    /// Parses a token of type `P` and a value of type `T` after this token, if such a token is
+    /// next.
+    ///
+    /// If the next token is not a `P`, returns `None`, and the stream does not move.
     ///
     /// # Examples
     ///
@@ -35,12 +38,14 @@ impl<'a> ParseBuffer<'a> {
         }
     }
 
-    /// Returns `true` if a group with this delimiter is next and this token is the first in it. The
-    /// stream stays.
+    /// Returns `true` if a group with the delimiter `delimiter` is next, and the first token in the
+    /// group is a `T`.
+    ///
+    /// The stream does not move.
     ///
     /// # Requires
     ///
-    /// The delimiter must be visible.
+    /// `delimiter` must be visible.
     ///
     /// # Examples
     ///

@@ -1,7 +1,7 @@
-//! Identifiers and lifetimes of any text.
+//! Additional methods for identifiers and lifetimes, which accept reserved words.
 ghost use Rattle.std.specs.Prelude.{Result, IfOk};
 ghost use Rattle.syn_parse.specs.Parses.{AnyIdentParses, AnyLifetimeParses, IsUnraw};
-ghost use Rattle.syn_parse.specs.Lighter.{lowers_any_ident, lowers_any_lifetime};
+ghost use Rattle.syn_parse.specs.Lighter.{lowers_token};
 ghost use Rattle.syn_parse.specs.State.{State};
 ghost use Rattle.syn_parse.specs.Takings.{Keeps, Takings, lower, told};
 ghost use Rattle.syn_parse.specs.Tokens.{take_any_ident, take_any_lifetime};
@@ -13,7 +13,7 @@ use std::alloc::{AllocError, Global};
 use tok_buffer::Lifetime;
 use tok_core::Ident;
 
-/// Further calls on identifiers.
+/// Additional methods for `Ident`.
 pub trait IdentExt: Sized {
     // Relates the stream before `parse_any`, its result and the stream after it.
     ghost any_parses: { State → Result Self Fault → State → Type 0 };
@@ -21,7 +21,7 @@ pub trait IdentExt: Sized {
     // What is taken of the visible trees ahead.
     ghost any_takes: { Takings Self };
 
-    /// Parses an identifier of any text, reserved words included.
+    /// Parses an identifier, which may be a reserved word.
     ///
     /// # Examples
     ///
@@ -35,7 +35,7 @@ pub trait IdentExt: Sized {
     // Relates an identifier and the one without `r#`.
     ghost is_unraw: { Self → Self → Type 0 };
 
-    /// Copies the identifier without a leading `r#`, as `Ident::unraw` does.
+    /// Creates a copy of the identifier without a leading `r#`, like `Ident::unraw`.
     ///
     /// Returns an error if the allocation fails.
     fn unraw(&self, alloc: Global) -> std::result::Result<Self, AllocError>
@@ -45,7 +45,7 @@ pub trait IdentExt: Sized {
 impl IdentExt for Ident {
     ghost any_parses = { AnyIdentParses };
 
-    ghost any_takes = { told (λ v. v) take_any_ident (lower lowers_any_ident) };
+    ghost any_takes = { told (λ v. v) take_any_ident (lower (lowers_token _)) };
 
     ghost is_unraw = { IsUnraw };
 
@@ -58,7 +58,7 @@ impl IdentExt for Ident {
     }
 }
 
-/// A further call on lifetimes.
+/// An additional method for `Lifetime`.
 pub trait LifetimeExt: Sized {
     // Relates the stream before `parse_any`, its result and the stream after it.
     ghost any_parses: { State → Result Self Fault → State → Type 0 };
@@ -66,7 +66,7 @@ pub trait LifetimeExt: Sized {
     // What is taken of the visible trees ahead.
     ghost any_takes: { Takings Self };
 
-    /// Parses a lifetime of any name, reserved words included.
+    /// Parses a lifetime, whose name may be a reserved word.
     fn parse_any(input: ParseStream<'_, '_>) -> Result<Self>
         ensures reads { any_parses input.old result input.new }
         ensures takes { Keeps any_takes input.old result input.new };
@@ -75,7 +75,7 @@ pub trait LifetimeExt: Sized {
 impl LifetimeExt for Lifetime {
     ghost any_parses = { AnyLifetimeParses };
 
-    ghost any_takes = { told (λ v. v) take_any_lifetime (lower lowers_any_lifetime) };
+    ghost any_takes = { told (λ v. v) take_any_lifetime (lower (lowers_token _)) };
 
     fn parse_any(input: ParseStream<'_, '_>) -> Result<Self> {
         any_lifetime(input)
@@ -89,9 +89,14 @@ fn any_ident(input: ParseStream<'_, '_>) -> Result<Ident>
     let Some((ident, rest)) = input.cursor().ident() else {
         return Err(input.refuse("expected ident"));
     };
-    let ident = ident.clone()?;
+    // A short one is returned apart, and so goes through memory once less.
+    if let Some(short) = ident.copied_if_short() {
+        input.move_to(rest);
+        return Ok(short);
+    }
+    let copy = ident.clone()?;
     input.move_to(rest);
-    Ok(ident)
+    Ok(copy)
 }
 
 // Does what `Lifetime::parse_any` does.
@@ -101,10 +106,12 @@ fn any_lifetime(input: ParseStream<'_, '_>) -> Result<Lifetime>
     let Some((lifetime, rest)) = input.cursor().lifetime() else {
         return Err(input.refuse("expected lifetime"));
     };
+    let apostrophe = lifetime.apostrophe;
+    if let Some(ident) = lifetime.ident.copied_if_short() {
+        input.move_to(rest);
+        return Ok(Lifetime { apostrophe, ident });
+    }
     let ident = lifetime.ident.clone()?;
     input.move_to(rest);
-    Ok(Lifetime {
-        apostrophe: lifetime.apostrophe,
-        ident,
-    })
+    Ok(Lifetime { apostrophe, ident })
 }

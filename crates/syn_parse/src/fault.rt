@@ -1,4 +1,4 @@
-//! Why a call on a stream returns no value, and the texts of errors.
+//! The error type of parsers, and the texts of their error messages.
 ghost use Rattle.std.specs.Prelude.{◌≡◌, ◌++◌, IfOk, IfSome, MatchResult, codes, string_bytes};
 ghost use Rattle.tok_buffer.specs.Messages.{message_at};
 ghost use Rattle.syn_parse.specs.Faults.{Combines, Refuses, RefusesAt};
@@ -10,21 +10,22 @@ use std::fmt::{self, Display, Formatter, Write};
 use tok_buffer::Error;
 use tok_core::{Delimiter, Span};
 
-/// The error of a call on a stream: the tokens are rejected, or an allocation failed.
+/// The error type of parsers. A parser either rejects its input or fails to allocate memory.
 #[derive(Drop, Debug)]
 pub enum Fault {
-    /// The tokens are rejected.
+    /// The parser rejected its input, with the messages of this `Error`.
     Refused(Error),
     /// An allocation failed.
     Memory(AllocError),
 }
 
-/// The result of a parser.
+/// The result type of parsers. The error type is `Fault`.
 pub type Result<T> = std::result::Result<T, Fault>;
 
 impl Fault {
-    /// Creates the fault of an error of one message at `span`. If an allocation fails, it is
-    /// `Memory`.
+    /// Creates a fault with one message at `span`.
+    ///
+    /// If an allocation fails, the fault is `Memory`.
     ///
     /// # Examples
     ///
@@ -39,10 +40,10 @@ impl Fault {
         Fault::refused(Error::new(alloc, span, message))
     }
 
-    /// Appends the messages of another fault, so that both are reported.
+    /// Appends the messages of `another` to the messages of this fault.
     ///
-    /// If either is a failed allocation, or one fails here, the fault is `Memory` and the messages
-    /// are dropped.
+    /// If one of the faults is `Memory`, or if an allocation fails in this call, this fault becomes
+    /// `Memory` and the messages are dropped.
     ///
     /// # Examples
     ///
@@ -94,7 +95,7 @@ impl Fault {
     }
 }
 
-/// Writes the text of the error's first message.
+/// Writes the text of the first message. If the fault is `Memory`, writes "out of memory".
 impl Display for Fault {
     ghost use Rattle.std.specs.Prelude.{Some};
     ghost use Rattle.syn_parse.specs.Faults.{fault_words};
@@ -133,8 +134,7 @@ impl From<AllocError> for Fault {
     }
 }
 
-/// Converts the failure of a call that returns the value for which an allocation failed. The value
-/// is dropped.
+/// Converts an `AllocFailed` to `Fault::Memory`, and drops the value in the `AllocFailed`.
 impl<T: Drop> From<AllocFailed<T>> for Fault {
     ghost use Rattle.std.specs.Prelude.{◌≡◌, alloc_error};
     ghost use Rattle.syn_parse.specs.declared.fault.Fault.TheVariants.{Memory};
@@ -146,8 +146,10 @@ impl<T: Drop> From<AllocFailed<T>> for Fault {
     }
 }
 
-/// Returns the texts of the errors if a group of this delimiter is missing, and if a token is left
-/// over in one.
+/// Returns two error messages about groups with the delimiter `delimiter`.
+///
+/// The first message says that such a group is missing. The second message says that a token in
+/// such a group was left unread.
 pub(crate) fn words_of(delimiter: Delimiter) -> (&'static str, &'static str)
     ensures expected { result.0.now ≡ delimiter_words delimiter }
     ensures leftover { result.1.now ≡ leftover_words delimiter }

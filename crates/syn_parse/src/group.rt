@@ -1,4 +1,4 @@
-//! Parsers that enter groups.
+//! Functions, methods and macros that enter groups.
 ghost use Rattle.std.specs.Prelude.{◌≡◌, Some, IfOk, codes};
 ghost use Rattle.std.specs.Fn.{FnOnceReturnsAtMut, FnOnceTakesAtMut};
 ghost use Rattle.tok_lexical.specs.declared.delimiter.Delimiter.TheVariants as delimiter;
@@ -19,23 +19,24 @@ use crate::stream::{ParseBuffer, ParseStream};
 use tok_core::{DelimSpan, Delimiter};
 use tok_types::token;
 
-/// A group that has been entered: its token, and the stream of its contents.
+/// The delimiters of a group that a parser has entered, and the stream of the group's contents.
 #[derive(Debug)]
 pub struct Delimited<'a, T> {
     pub token: T,
     pub content: ParseBuffer<'a>,
 }
 
-/// The token of parentheses, and the stream of their contents. `parse_parens` returns it.
+/// The result of `parse_parens`: the parentheses, and the stream of their contents.
 pub type Parens<'a> = Delimited<'a, token::Paren>;
 
-/// The token of braces, and the stream of their contents. `parse_braces` returns it.
+/// The result of `parse_braces`: the braces, and the stream of their contents.
 pub type Braces<'a> = Delimited<'a, token::Brace>;
 
-/// The token of brackets, and the stream of their contents. `parse_brackets` returns it.
+/// The result of `parse_brackets`: the brackets, and the stream of their contents.
 pub type Brackets<'a> = Delimited<'a, token::Bracket>;
 
-/// The token of an invisible group, and the stream of its contents. `parse_group` returns it.
+/// The result of `parse_group`: the delimiters of the invisible group, and the stream of its
+/// contents.
 pub type Group<'a> = Delimited<'a, token::Group>;
 
 impl<'a, const D: usize> Delimited<'a, token::Visible<D>> {
@@ -53,9 +54,12 @@ impl<'a, const D: usize> Delimited<'a, token::Visible<D>> {
     }
 }
 
-/// Enters parentheses, and moves the stream past them. Close `content` into the stream.
+/// Enters the next group, which must be in parentheses, and moves `input` past the group.
 ///
-/// If the next token is something else, returns an error and the stream stays.
+/// The field `content` of the result is the stream of the group's contents. Pass this stream to the
+/// method `close` of `input` after you have parsed the contents.
+///
+/// If no group in parentheses is next, returns an error, and `input` does not move.
 ///
 /// # Examples
 ///
@@ -75,7 +79,9 @@ pub fn parse_parens<'a>(input: ParseStream<'_, 'a>) -> Result<Parens<'a>>
     Parens::enter(input)
 }
 
-/// Enters braces, as `parse_parens` does parentheses.
+/// Enters the next group, which must be in braces, and moves `input` past the group.
+///
+/// Apart from the delimiter, the call works like `parse_parens`.
 pub fn parse_braces<'a>(input: ParseStream<'_, 'a>) -> Result<Braces<'a>>
     ensures enters { Enters (λ p. AreParts p.token.span p.content)
         (enter delimiter.Brace input.old.place)
@@ -86,7 +92,9 @@ pub fn parse_braces<'a>(input: ParseStream<'_, 'a>) -> Result<Braces<'a>>
     Braces::enter(input)
 }
 
-/// Enters brackets, as `parse_parens` does parentheses.
+/// Enters the next group, which must be in brackets, and moves `input` past the group.
+///
+/// Apart from the delimiter, the call works like `parse_parens`.
 pub fn parse_brackets<'a>(input: ParseStream<'_, 'a>) -> Result<Brackets<'a>>
     ensures enters { Enters (λ p. AreParts p.token.span p.content)
         (enter delimiter.Bracket input.old.place)
@@ -97,7 +105,9 @@ pub fn parse_brackets<'a>(input: ParseStream<'_, 'a>) -> Result<Brackets<'a>>
     Brackets::enter(input)
 }
 
-/// Enters an invisible group, as `parse_parens` does parentheses.
+/// Enters the next tree, which must be an invisible group, and moves `input` past the group.
+///
+/// Apart from the delimiter, the call works like `parse_parens`.
 pub fn parse_group<'a>(input: ParseStream<'_, 'a>) -> Result<Group<'a>>
     ensures { Enters (λ p e. (p.token.span ≡ e.span) × (p.content ≡ content_of e))
         (enter delimiter.None input.old.place)
@@ -133,10 +143,13 @@ impl<'a> ParseBuffer<'a> {
         }
     }
 
-    /// Enters the next tree if it is a group, which may be an invisible one.
+    /// Enters the next tree, which must be a visible or invisible group, and moves the stream past
+    /// the group.
     ///
-    /// Returns its delimiter, its span, and the stream of its contents. Close that into this
-    /// stream. If the next tree is no group, returns an error and the stream stays.
+    /// Returns the delimiter and the span of the group, and the stream of its contents. After you
+    /// have parsed the contents, pass their stream to the method `close` of this stream.
+    ///
+    /// If the next tree is not a group, returns an error, and the stream does not move.
     pub fn parse_any_delimiter(&mut self) -> Result<(Delimiter, DelimSpan, Self)>
         ensures { Enters (λ p e. (p.0 ≡ e.delimiter) × AreParts p.1 p.2 e)
             (enter_any self.old.place)
@@ -152,15 +165,16 @@ impl<'a> ParseBuffer<'a> {
         }
     }
 
-    /// Enters a group with this delimiter, runs `f` on its contents, and closes them. Returns the
-    /// group's span and the value of `f`.
+    /// Enters a group with the delimiter `delimiter`, runs `f` on its contents, and closes the
+    /// group.
     ///
-    /// If the next token is something else, the stream stays. If `f` returns an error, the stream
-    /// is after the group.
+    /// Returns the span of the group and the value of `f`. If no such group is next, returns an
+    /// error, and the stream does not move. If `f` returns an error, the call returns this error,
+    /// and the stream is after the group.
     ///
     /// # Requires
     ///
-    /// `f` must be callable on the contents.
+    /// `f` must be callable on the stream of the contents.
     ///
     /// # Examples
     ///
@@ -182,11 +196,14 @@ impl<'a> ParseBuffer<'a> {
         self.run_within(delimiter, f)
     }
 
-    /// Parses a value in a group with this delimiter, as `within` does by `T::parse`.
+    /// Parses a value of type `T` in a group with the delimiter `delimiter`.
+    ///
+    /// Returns the span of the group and the value. The call has the same effect as `within` with
+    /// the function `T::parse`.
     ///
     /// # Requires
     ///
-    /// The delimiter must be visible.
+    /// `delimiter` must be visible.
     ///
     /// # Examples
     ///
@@ -226,8 +243,11 @@ impl<'a> ParseBuffer<'a> {
     }
 }
 
-/// Enters parentheses: returns their token, and puts the stream of their contents into a variable
-/// that is declared before. The function around it must return a `Result`, since it uses `?`.
+/// Enters the next group of a stream, which must be in parentheses.
+///
+/// Returns the token of the parentheses, and stores the stream of the contents in a variable that
+/// the caller has declared. The enclosing function must return a `Result`, because the macro uses
+/// `?`.
 ///
 /// # Examples
 ///
@@ -247,7 +267,9 @@ macro_rules! parenthesized {
     }};
 }
 
-/// Enters braces, as `parenthesized!` does parentheses.
+/// Enters the next group of a stream, which must be in braces.
+///
+/// Apart from the delimiter, the macro works like `parenthesized!`.
 #[macro_export]
 macro_rules! braced {
     ($content:ident in $input:expr) => {{
@@ -258,7 +280,9 @@ macro_rules! braced {
     }};
 }
 
-/// Enters brackets, as `parenthesized!` does parentheses.
+/// Enters the next group of a stream, which must be in brackets.
+///
+/// Apart from the delimiter, the macro works like `parenthesized!`.
 #[macro_export]
 macro_rules! bracketed {
     ($content:ident in $input:expr) => {{

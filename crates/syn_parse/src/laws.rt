@@ -1,4 +1,4 @@
-//! Laws of streams. Each is the contract of a function that does nothing, or makes one call.
+//! Laws about streams. Each law is the contract of a function that does nothing, or makes one call.
 ghost use Rattle.syn_parse.specs.Laws.{ErrorsHaveOneSpan, ForksFollow, PeekTells, ScopesTell, VisibleGroupParses};
 ghost use Rattle.syn_parse.specs.Progress.{ParsesGoOn};
 ghost use Rattle.syn_parse.specs.Reads.{Peeks2, Peeks3};
@@ -21,17 +21,21 @@ use tok_core::{Ident, Literal, Punct, TokenTree};
 use tok_types::token;
 use tok_types::token::{Keyword, Punctuation, Token, Underscore, Visible};
 
-/// Each parse of an identifier, lifetime, literal, punct, tree, group, keyword, punctuation or `_`
-/// that returns a value stays in the scope of its stream and lowers what remains there. So a loop
-/// of parses ends.
+/// A parse that returns a value keeps the stream in its scope, and lowers the number of remaining
+/// tokens. A loop of such parses therefore ends.
+///
+/// The law applies to parses of identifiers, lifetimes, literals, puncts, trees, groups, keywords,
+/// punctuation tokens and `_`.
 pub fn parses_go_on()
     ensures { ParsesGoOn }
 {
     reads_go_on();
 }
 
-/// A peek of an identifier, literal, punct, tree or `_` is `true` if and only if a parse of it
-/// returns a value, unless an allocation fails.
+/// If no allocation fails, a peek of a token returns `true` if and only if a parse of this token
+/// returns a value.
+///
+/// The law applies to identifiers, literals, puncts, trees and `_`.
 pub fn peeks_tell_parses()
     ensures idents { PeekTells ⟦<Ident as Token>⟧.peeks ⟦<Ident as Parse>⟧.parses }
     ensures literals { PeekTells ⟦<Literal as Token>⟧.peeks ⟦<Literal as Parse>⟧.parses }
@@ -40,80 +44,99 @@ pub fn peeks_tell_parses()
     ensures underscores { PeekTells ⟦<Underscore as Token>⟧.peeks ⟦<Underscore as Parse>⟧.parses }
 {}
 
-/// A peek of a keyword or a punctuation is `true` if and only if a parse of it returns a value,
-/// also past the tables.
+/// If no allocation fails, a peek of a keyword or a punctuation token returns `true` if and only if
+/// a parse of this token returns a value.
+///
+/// The law also applies to token types whose number is past the end of the table.
 pub fn peeks_tell_tokens<const K: usize, const N: usize>()
     ensures keywords { PeekTells ⟦<Keyword<K> as Token>⟧.peeks ⟦<Keyword<K> as Parse>⟧.parses }
     ensures punctuations { PeekTells ⟦<Punctuation<K, N> as Token>⟧.peeks
         ⟦<Punctuation<K, N> as Parse>⟧.parses }
 {}
 
-/// A peek of parentheses, braces or brackets is `true` if and only if `parse_parens` and its like
-/// enter a group, unless an allocation fails.
+/// A peek of parentheses, braces or brackets returns `true` if and only if the parser of this
+/// delimiter enters a group.
+///
+/// The parsers are `parse_parens`, `parse_braces` and `parse_brackets`. The law makes no statement
+/// if an allocation fails.
 pub fn peeks_tell_groups<const D: usize>()
     ensures { PeekTells ⟦<Visible<D> as Token>⟧.peeks (VisibleGroupParses {D = D}) }
 {}
 
-/// Moves and closes on a fork, taken over by `advance_to`, equal the same moves and closes on the
-/// stream.
+/// If a fork moves, or closes a group, and a stream then advances to the fork, the result is the
+/// same as if the stream had first advanced to the fork, and had then moved or closed the group.
+///
+/// A new fork is at the position of its stream.
 pub fn forks_follow()
     ensures { ForksFollow }
 {}
 
-/// In a scope without invisible groups, as each of a text is, an error says what is missing at exactly
-/// one span: the span at which the next token begins, the whole of it, that of the scope's end, or
-/// the span that was given.
+/// In a scope without invisible groups, the contract of a parser allows only one span for each
+/// error.
+///
+/// This span is the beginning of the next token, the whole token, the end of the scope, or a span
+/// that the contract names.
 pub fn errors_have_one_span()
     ensures { ErrorsHaveOneSpan }
 {}
 
-/// Streams whose places have equal scopes are in one scope, as `advance_to` needs. Each call that
-/// states what it takes keeps the scope, so a fork of a stream may parse, and the stream then go to
-/// it.
+/// If a contract states that two streams have the same scope (`scope_of`), then one stream may
+/// advance to the other, as `advance_to` requires.
+///
+/// Each call whose contract states which tokens it reads keeps the scope. A stream may therefore
+/// advance to a fork that has made such calls.
 pub fn scopes_tell()
     ensures { ScopesTell }
 {}
 
-/// Invisible groups do not matter to the texts of errors: at places of filled forests with equal
-/// views they are equal. So are those of lookaheads that have recorded the same names.
+/// The texts of errors do not depend on invisible groups.
+///
+/// The law applies to two streams that differ only in invisible groups, and thus have equal views.
+/// It requires that every invisible group in their buffers contains a visible tree. Errors of the
+/// two streams then have equal texts. The errors of two lookaheads that have recorded the same
+/// names also have equal texts.
 pub fn views_decide_words()
     ensures streams { ViewsDecideWords }
     ensures lookaheads { ViewsDecideLookaheads }
 {}
 
-/// Invisible groups do not matter to `peek2` and `peek3` of a token if they do not matter to its
-/// `peek`.
+/// If the result of `peek` for a token type does not depend on invisible groups, then the results
+/// of `peek2` and `peek3` for this type do not depend on them.
 pub fn peeks_past_ignore_invisible<T: Token>()
     ensures second { IgnoresInvisible T.peeks → IgnoresInvisible (Peeks2 T.peeks) }
     ensures third { IgnoresInvisible T.peeks → IgnoresInvisible (Peeks3 T.peeks) }
 {}
 
-/// All values of `Nothing` are equal, and write nothing to a hasher. A clone is one of them.
+/// All values of `Nothing`, including clones, are equal, and hashing such a value writes nothing to
+/// the hasher.
 pub fn nothings_are_equal()
     ensures equal { AreEqual ⟦<Nothing as PartialEq>⟧.eq }
     ensures hash { WriteNothing ⟦<Nothing as Hash>⟧.hash_input }
     ensures clone { ClonesKeep ⟦<Nothing as Clone>⟧.is_clone }
 {}
 
-/// All keywords of one's own with one word are equal, and write nothing to a hasher.
+/// All values of `Own<W>` are equal, and hashing such a value writes nothing to the hasher.
 pub fn own_keywords_are_equal<W: Word>()
     ensures equal { AreEqual ⟦<Own<W> as PartialEq>⟧.eq }
     ensures hash { WriteNothing ⟦<Own<W> as Hash>⟧.hash_input }
 {}
 
-/// A clone of a keyword of one's own has its span.
+/// A clone of an `Own<W>` has the same span as the original.
 pub fn clones_keep_own_keywords<W: Word>()
     ensures { ClonesKeep ⟦<Own<W> as Clone>⟧.is_clone }
 {}
 
-/// A clone of a paused stream, or of the argument of a step, has the place, the scope and the
-/// leftover of the original.
+/// A clone of a `Paused` or of a `StepCursor` has the same position and scope as the original. A
+/// clone of a `Paused` also has the same leftover.
 pub fn clones_keep_streams<'a>()
     ensures paused { ClonesKeep ⟦<Paused<'a> as Clone>⟧.is_clone }
     ensures cursors { ClonesKeep ⟦<StepCursor<'a> as Clone>⟧.is_clone }
 {}
 
-/// `parenthesized!` enters parentheses.
+/// Enters parentheses with the macro `parenthesized!`.
+///
+/// Returns the token of the parentheses and the stream of their contents. The contract states that
+/// the macro enters only parentheses.
 pub fn parenthesized_enters_parentheses<'a>(
     input: ParseStream<'_, 'a>,
 ) -> Result<(token::Paren, ParseBuffer<'a>)>
@@ -124,7 +147,10 @@ pub fn parenthesized_enters_parentheses<'a>(
     Ok((token, content))
 }
 
-/// `braced!` enters braces.
+/// Enters braces with the macro `braced!`.
+///
+/// Returns the token of the braces and the stream of their contents. The contract states that the
+/// macro enters only braces.
 pub fn braced_enters_braces<'a>(
     input: ParseStream<'_, 'a>,
 ) -> Result<(token::Brace, ParseBuffer<'a>)>
@@ -135,7 +161,10 @@ pub fn braced_enters_braces<'a>(
     Ok((token, content))
 }
 
-/// `bracketed!` enters brackets.
+/// Enters brackets with the macro `bracketed!`.
+///
+/// Returns the token of the brackets and the stream of their contents. The contract states that the
+/// macro enters only brackets.
 pub fn bracketed_enters_brackets<'a>(
     input: ParseStream<'_, 'a>,
 ) -> Result<(token::Bracket, ParseBuffer<'a>)>

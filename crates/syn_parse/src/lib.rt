@@ -1,8 +1,10 @@
 //! Parse streams, and the parsers of tokens and trees.
 //!
-//! A parser is a function `fn(ParseStream) -> Result<T>`. It reads values by `parse`, looks ahead
-//! by `peek` and `lookahead1`, enters groups by `within` or by the parsers of groups, and tries by
-//! `fork`. `Parser` runs one over a whole text or stream of tokens.
+//! A parser is a function `fn(ParseStream) -> Result<T>`. It reads values with `parse`, and looks
+//! at the next tokens with `peek` and `lookahead1`. It enters groups with `within` or with a
+//! function such as `parse_parens`, and tries alternatives on a `fork`.
+//!
+//! The trait `Parser` has methods that run a parser over a whole text or a whole stream of tokens.
 #![tactic(auto)]
 
 mod choice;

@@ -1,4 +1,4 @@
-//! Choosing by the next token.
+//! The type `Lookahead1`, with which a parser chooses between alternatives by the next token.
 ghost use Rattle.std.specs.Prelude.{◌≡◌, ◌<◌, [], ◌∷◌, ◌++◌, false, length, IfOk, IfSome, IsOk, MatchOption, OnOk, OnErr, string_bytes};
 ghost use Rattle.std.specs.Str.{IsUtf8};
 ghost use Rattle.tok_buffer.specs.Messages.{one_message};
@@ -17,8 +17,10 @@ use tok_buffer::{Cursor, Error};
 use tok_core::{Delimiter, Span};
 use tok_types::token::Token;
 
-/// A lookahead at one place. It records the name of each token that is not found, and `error` lists
-/// them.
+/// A helper for choosing between alternatives by peeking at the next token of a stream.
+///
+/// A lookahead records the name of each token that it does not find. The method `error` returns an
+/// error that lists these names.
 ///
 /// # Examples
 ///
@@ -60,7 +62,7 @@ impl<'a> Model for Lookahead1<'a> {
 }
 
 impl<'a> ParseBuffer<'a> {
-    /// Returns a lookahead at the stream's place, with nothing recorded.
+    /// Creates a lookahead at the position of the stream. The lookahead has not recorded any names.
     pub fn lookahead1(&self) -> Lookahead1<'a>
         ensures { result ≡ looks self.now }
     {
@@ -74,10 +76,10 @@ impl<'a> ParseBuffer<'a> {
 }
 
 impl<'a> Lookahead1<'a> {
-    /// Returns `true` if this token is next. If not, records its name.
+    /// Returns `true` if the next token is a `T`. Otherwise, records the name of `T`.
     ///
-    /// Returns an error if the allocation for the name fails. Nothing is then recorded. The first
-    /// four names take no memory.
+    /// Returns an error if the allocation for the name fails. The name is then not recorded.
+    /// Recording the first four names does not allocate.
     pub fn peek<T: Token>(&mut self) -> Result<bool, AllocError>
         ensures ok { IfOk result
             (λ found. T.peeks self.old.place found × Looked T.shown found self.old self.new) }
@@ -89,10 +91,11 @@ impl<'a> Lookahead1<'a> {
         self.peek_as(found, T::display())
     }
 
-    /// Returns `found`, and records `display` if it is `false`. `peek` calls it after its own look.
+    /// Returns `found`. If `found` is `false`, the call also records the name `display`.
     ///
-    /// Returns an error if the allocation fails. Nothing is then recorded. The first four names take
-    /// no memory.
+    /// The method `peek` calls this method after it has looked for the token. Returns an error if
+    /// the allocation for the name fails. The name is then not recorded. Recording the first four
+    /// names does not allocate.
     pub fn peek_as(&mut self, found: bool, display: &'static str) -> Result<bool, AllocError>
         ensures ok { IfOk result
             (λ is_found. (is_found ≡ found) × (self.new ≡ noted_as found display.now self.old)) }
@@ -105,12 +108,13 @@ impl<'a> Lookahead1<'a> {
         Ok(found)
     }
 
-    /// Returns an error that names all recorded tokens, in the order of their peeks: "expected `,`
-    /// or `]`".
+    /// Returns an error that names all recorded tokens in the order of their peeks, such as
+    /// "expected `,` or `]`".
     ///
-    /// The end is named by the scope's closing delimiter, and not at all if the scope has none.
-    /// With nothing to name, the text is "unexpected end of input" or "unexpected token". Returns
-    /// `Fault::Memory` if an allocation fails.
+    /// For the end of the scope, the error names the scope's closing delimiter. If the scope has no
+    /// closing delimiter, the error does not name its end. If there are no names, the text is
+    /// "unexpected end of input" or "unexpected token". Returns `Fault::Memory` if an allocation
+    /// fails.
     pub fn error(self) -> Fault
         ensures refuses { Refuses (look_message self.entry) result }
         ensures says { SaysAt (at_look self.entry) (look_missing self.entry) result }

@@ -1,4 +1,4 @@
-//! Parsers of values that follow one another.
+//! Methods that parse a sequence of values, and implementations of `Parse` for vectors and tuples.
 ghost use Rattle.std.specs.Prelude.{◌≡◌, ◌+◌, MatchResult};
 ghost use Rattle.syn_parse.specs.Faults.{Refuses};
 ghost use Rattle.syn_parse.specs.Loops.{LoopsToEnd, LoopsWhile, nothing_taken};
@@ -13,11 +13,19 @@ use crate::stream::{ParseBuffer, ParseStream};
 use tok_types::token::Token;
 
 impl<'a> ParseBuffer<'a> {
-    /// Parses values as long as this token is next.
+    /// Parses values of type `T` as long as the next token is a `P`.
     ///
-    /// It ends for every type. A value that takes nothing is parsed again, once for each leaf,
-    /// opening and closing that is left. Then the error is "parser made no progress". An error leaves
-    /// the stream where the failing value left it.
+    /// If the parser of a value returns an error, the call returns this error, and the stream stays
+    /// where that parser left it.
+    ///
+    /// The loop always ends. It counts the leaf tokens and delimiters that remain in the stream at
+    /// the start. After more values than this number, the call returns the error "parser made no
+    /// progress".
+    ///
+    /// The contract states which tokens the loop consumes only if the contracts of `T` and `P` meet
+    /// two conditions. The contract of `T` must state that each value lowers the number of
+    /// remaining tokens (`lower` in `Takings`). The contract of `P` must state which trees a peek
+    /// finds.
     ///
     /// # Examples
     ///
@@ -37,9 +45,11 @@ impl<'a> ParseBuffer<'a> {
         Ok(values)
     }
 
-    /// Parses values up to the end of the stream.
+    /// Parses values of type `T` up to the end of the stream.
     ///
-    /// It ends and fails as `parse_while` does.
+    /// The call always ends, and returns the same errors as `parse_while`. The contract states
+    /// which tokens the loop consumes only if the contract of `T` states that each value lowers the
+    /// number of remaining tokens (`lower` in `Takings`).
     ///
     /// # Examples
     ///
@@ -75,8 +85,11 @@ impl<'a> ParseBuffer<'a> {
     }
 }
 
-/// Parses values up to the end of the stream, as `parse_until_end` does. So `parse_within` parses
-/// the values in a group, and `parse_str` those of a text.
+/// Parses values of type `T` up to the end of the stream, like `parse_until_end`.
+///
+/// With the type `Vec<T>`, `parse_within` parses all values in a group, and `parse_str` parses all
+/// values of a text. The contract states which tokens the parser consumes only if the contract of
+/// `T` states that each value lowers the number of remaining tokens (`lower` in `Takings`).
 ///
 /// # Examples
 ///
@@ -94,7 +107,7 @@ impl<T: Parse + Drop> Parse for Vec<T> {
     }
 }
 
-/// Parses two values in turn.
+/// Parses a value of type `A`, and then a value of type `B`.
 ///
 /// # Examples
 ///
@@ -113,7 +126,7 @@ impl<A: Parse + Drop, B: Parse> Parse for (A, B) {
     }
 }
 
-/// Parses three values in turn.
+/// Parses a value of type `A`, then a value of type `B`, and then a value of type `C`.
 ///
 /// # Examples
 ///

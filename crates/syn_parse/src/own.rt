@@ -1,4 +1,4 @@
-//! Keywords of one's own.
+//! Custom keywords, and methods that parse an identifier with a given text.
 ghost use Rattle.std.specs.Prelude.{◌≡◌, ℕ, List, Some};
 ghost use Rattle.tok_leaves.specs.Spans.{call_site};
 ghost use Rattle.tok_buffer.specs.Reads.{read_keyword};
@@ -9,7 +9,7 @@ ghost use Rattle.syn_parse.specs.Owned.{own_first, own_word, take_own};
 ghost use Rattle.syn_parse.specs.Parses.{WordParses};
 ghost use Rattle.syn_parse.specs.Takes.{Takes};
 ghost use Rattle.syn_parse.specs.Takings.{lower, told};
-ghost use Rattle.syn_parse.specs.Lighter.{lowers_own};
+ghost use Rattle.syn_parse.specs.Lighter.{lowers_token};
 
 use crate::fault::Result;
 use crate::parse::Parse;
@@ -23,7 +23,9 @@ use tok_buffer::Cursor;
 use tok_core::{Ident, MakeFault, Span, ToTokens, TokenStream, TokenTree};
 use tok_types::token::Token;
 
-/// The text of a keyword of your own. `Own` makes a token type of it.
+/// A type that defines the text of a custom keyword.
+///
+/// If `W` implements `Word`, then `Own<W>` is the token type of the keyword.
 ///
 /// # Examples
 ///
@@ -43,11 +45,12 @@ use tok_types::token::Token;
 pub trait Word {
     ghost text: { List ℕ };
 
-    /// Returns the text in backquotes, as errors name it.
+    /// Returns the text of the keyword in backquotes. Error messages use this text as the name of
+    /// the keyword.
     fn display() -> &'static str
         ensures { result.now ≡ in_backquotes text };
 
-    /// Returns the text.
+    /// Returns the text of the keyword.
     final fn text() -> &'static str
         ensures { result.now ≡ text }
     {
@@ -68,10 +71,11 @@ fn unquoted(quoted: &str) -> &str
 }
 
 impl<'a> ParseBuffer<'a> {
-    /// Parses the identifier with this text, and returns its span.
+    /// Parses an identifier with the text `text`, and returns its span.
     ///
-    /// If it is not next, the error names it in backquotes and the stream stays. For a keyword that
-    /// is looked for by `Lookahead1`, or that is written, make a type by `Own`.
+    /// If this identifier is not next, returns an error that names `text` in backquotes, and the
+    /// stream does not move. To use a keyword with `Lookahead1`, or to write a keyword, create a
+    /// type with `Own`.
     ///
     /// # Examples
     ///
@@ -86,7 +90,9 @@ impl<'a> ParseBuffer<'a> {
         keyword(self, text)
     }
 
-    /// Returns `true` if the identifier with this text is next. The stream stays.
+    /// Returns `true` if the next token is an identifier with the text `text`.
+    ///
+    /// The stream does not move.
     ///
     /// # Examples
     ///
@@ -102,9 +108,10 @@ impl<'a> ParseBuffer<'a> {
     }
 }
 
-/// The keyword with the text of `W`: an identifier of this text. All values of a type are equal.
+/// The token type of a custom keyword, which is an identifier with the text of `W`.
 ///
-/// It is a token type like those of `token`: it can be parsed, looked for and written.
+/// Like the types in `token`, `Own<W>` can be parsed, peeked and written. All values of `Own<W>`
+/// are equal.
 #[derive_where(Clone, Copy, PartialEq, Eq, Hash)]
 pub struct Own<W> {
     #[derive_where(skip(EqHashOrd))]
@@ -114,7 +121,7 @@ pub struct Own<W> {
 }
 
 impl<W: Word> Own<W> {
-    /// Creates the keyword at `span`.
+    /// Creates the keyword with the span `span`.
     pub fn new(span: Span) -> Self
         ensures { result.span ≡ span }
     {
@@ -144,7 +151,7 @@ impl<W: Word> Token for Own<W> {
 impl<W: Word> Parse for Own<W> {
     ghost parses = { WordParses (λ own. own.span) W.text };
 
-    ghost takes = { told (λ own. own.span) (take_own W.text) (lower (lowers_own W.text)) };
+    ghost takes = { told (λ own. own.span) (take_own W.text) (lower (lowers_token _)) };
 
     fn parse(input: ParseStream<'_, '_>) -> Result<Self> {
         own_token(input)
@@ -159,7 +166,7 @@ fn own_token<W: Word>(input: ParseStream<'_, '_>) -> Result<Own<W>>
     Ok(Own::new(span))
 }
 
-/// Writes an identifier with the text, or nothing if the text is no identifier.
+/// Writes an identifier with the text of the keyword, or nothing if the text is not an identifier.
 impl<W: Word> ToTokens for Own<W> {
     ghost printed = { λ own. own_word W.text own.span };
 
@@ -172,7 +179,7 @@ impl<W: Word> ToTokens for Own<W> {
     }
 }
 
-/// Creates the keyword at the call site.
+/// Creates the keyword with the call site as its span.
 impl<W: Word> Default for Own<W> {
     ghost is_default = { λ own. own.span ≡ call_site };
 
@@ -181,7 +188,7 @@ impl<W: Word> Default for Own<W> {
     }
 }
 
-/// Writes the text.
+/// Writes the text of the keyword.
 impl<W: Word> Display for Own<W> {
     ghost output = { λ _. Some W.text };
 
@@ -190,7 +197,7 @@ impl<W: Word> Display for Own<W> {
     }
 }
 
-/// Writes `Token![server]` for the text `server`.
+/// Writes `Token![..]` with the text of the keyword, such as `Token![server]`.
 impl<W: Word> Debug for Own<W> {
     ghost debug_output = { λ _. Some (in_token W.text) };
 

@@ -1,4 +1,4 @@
-//! Values that are parsed, and peeks.
+//! The trait of types that can be parsed, and the methods of a stream that parse and peek.
 ghost use Rattle.std.specs.Prelude.{Result};
 ghost use Rattle.syn_parse.specs.Reads.{BoxParses, Does, OptionParses, Peeks2, Peeks3};
 ghost use Rattle.syn_parse.specs.Skips.{second_sees, third_sees};
@@ -12,8 +12,10 @@ use crate::fault::Result;
 use crate::stream::{ParseBuffer, ParseStream};
 use tok_types::token::Token;
 
-/// A type whose values can be parsed from a stream. A type of your own has `parse`, and may state
-/// what it does.
+/// A type whose values can be parsed from a stream.
+///
+/// To parse a type of your own, implement the function `parse`. You may also add a contract that
+/// states what `parse` does.
 ///
 /// # Examples
 ///
@@ -34,20 +36,22 @@ pub trait Parse: Sized {
     // What is taken of the visible trees ahead.
     ghost takes: { Takings Self } = { untold };
 
-    /// Parses a value, and moves the stream past it.
+    /// Parses a value of this type, and moves the stream past the tokens of the value.
     fn parse(input: ParseStream<'_, '_>) -> Result<Self>
         ensures reads { parses input.old result input.new }
         ensures takes { Keeps takes input.old result input.new };
 }
 
 impl<'a> ParseBuffer<'a> {
-    /// Parses a value of this type.
+    /// Parses a value of type `T`, and moves the stream past the tokens of the value.
     ///
     /// # Examples
     ///
     /// ```rust
     /// let name: Ident = input.parse()?;
     /// ```
+    // Inlined: a call that only makes a call would pass each value through memory once more.
+    #[inline(always)]
     pub fn parse<T: Parse>(&mut self) -> Result<T>
         ensures reads { Does T.parses self.old result self.new }
         ensures takes { Keeps T.takes self.old result self.new }
@@ -55,7 +59,7 @@ impl<'a> ParseBuffer<'a> {
         T::parse(self)
     }
 
-    /// Returns `true` if this token is next. The stream stays.
+    /// Returns `true` if the next token is a `T`. The stream does not move.
     ///
     /// # Examples
     ///
@@ -71,7 +75,7 @@ impl<'a> ParseBuffer<'a> {
         T::peek(self.cursor())
     }
 
-    /// Returns `true` if this token comes after the next one. The stream stays.
+    /// Returns `true` if the token after the next token is a `T`. The stream does not move.
     pub fn peek2<T: Token>(&self) -> bool
         ensures peeks { Peeks2 T.peeks self.now.place result }
         ensures sees { Sees (second_sees T.sees) self.now.place result }
@@ -82,7 +86,7 @@ impl<'a> ParseBuffer<'a> {
         }
     }
 
-    /// Returns `true` if this token comes after the next two. The stream stays.
+    /// Returns `true` if the token after the next two tokens is a `T`. The stream does not move.
     pub fn peek3<T: Token>(&self) -> bool
         ensures peeks { Peeks3 T.peeks self.now.place result }
         ensures sees { Sees (third_sees T.sees) self.now.place result }
@@ -97,7 +101,7 @@ impl<'a> ParseBuffer<'a> {
     }
 }
 
-/// Parses a value if a peek finds one, and else nothing.
+/// Parses a `T` if a peek finds a `T`. Otherwise, returns `None`, and the stream does not move.
 impl<T: Parse + Token> Parse for Option<T> {
     ghost parses = { OptionParses T.peeks T.parses };
 
@@ -113,7 +117,9 @@ impl<T: Parse + Token> Parse for Option<T> {
     }
 }
 
-/// Parses a value into a box. If the allocation fails, the stream is after the value.
+/// Parses a `T`, and moves the value into a box.
+///
+/// If the allocation of the box fails, returns an error, and the stream is after the value.
 impl<T: Parse + Drop> Parse for Box<T> {
     ghost parses = { BoxParses T.parses };
 

@@ -1,10 +1,10 @@
-//! Parsers of whole texts and streams of tokens.
+//! The trait `Parser`, which runs a parser over a whole text or a whole stream of tokens.
 ghost use Rattle.std.specs.Prelude.{◌≡◌, Result};
 ghost use Rattle.std.specs.Str.{chars};
 ghost use Rattle.std.specs.Fn.{FnOnceReturnsAtMut, FnOnceTakesAtMut};
 ghost use Rattle.tok_buffer.specs.Place.{start};
 ghost use Rattle.tok_leaves.specs.Spans.{call_site};
-ghost use Rattle.syn_parse.specs.Parsers.{Finishes, IsUnread, OnText, ParsesText, ParsesWhole, whole_stream};
+ghost use Rattle.syn_parse.specs.Parsers.{Finishes, IsExplained, IsUnread, OnText, ParsesText, ParsesWhole, whole_stream};
 ghost use Rattle.syn_parse.specs.Sources.{OnSource, OnTextOf, ParsesSource, ParsesTextOf, end_of_span, end_of_tokens};
 ghost use Rattle.syn_parse.specs.State.{State, fresh};
 ghost use Rattle.syn_parse.specs.declared.fault.Fault.{Fault};
@@ -15,7 +15,9 @@ use std::alloc::{AllocError, Global};
 use tok_buffer::{Error, TokenBuffer};
 use tok_core::{Edition, LexFault, Span, TokenStream};
 
-/// A parser of a whole stream of tokens. Every function from a `ParseStream` to a `Result` is one.
+/// A parser that can run over a whole text or a whole stream of tokens.
+///
+/// Every function from a `ParseStream` to a `Result` is a parser.
 ///
 /// # Examples
 ///
@@ -23,7 +25,7 @@ use tok_core::{Edition, LexFault, Span, TokenStream};
 /// let name = Ident::parse.parse_str(alloc, "x")?;
 /// ```
 pub trait Parser: Sized {
-    /// The type of the parsed value.
+    /// The type of the value that the parser returns.
     type Output;
 
     // Relates the stream before a call, its result and the stream after it.
@@ -32,54 +34,62 @@ pub trait Parser: Sized {
     // The parser may be called on this stream.
     ghost callable: { Self → State → Type 0 };
 
-    /// Parses all of these tokens. A leftover token is an error, unless the parser has returned
-    /// one.
+    /// Parses all tokens of a `TokenStream`.
+    ///
+    /// Returns the error of the parser, or an error if the parser leaves a token unread.
     ///
     /// # Requires
     ///
-    /// The parser must be callable on the stream of these tokens.
+    /// The parser must be callable on the stream of `tokens`.
     fn parse2(self, alloc: Global, tokens: TokenStream) -> Result<Self::Output>
         requires { callable self (whole_stream tokens call_site) }
         ensures { ParsesWhole (parses self) (whole_stream tokens call_site) result };
 
-    /// Lexes a text as source 0, and parses its tokens as `parse2` does.
+    /// Lexes `text`, and parses all of its tokens in the same way as `parse2`.
+    ///
+    /// The spans refer to source number 0.
     ///
     /// # Requires
     ///
-    /// The parser must be callable on the stream of the text's tokens, if it has any.
+    /// If `text` can be lexed, the parser must be callable on the stream of its tokens.
     fn parse_str(self, alloc: Global, text: &str) -> Result<Self::Output>
         requires { OnText (callable self) (chars text.now) }
         ensures { ParsesText (parses self) (chars text.now) result };
 
-    /// Lexes a text as source `number`, and parses its tokens as `parse2` does.
+    /// Lexes `text`, and parses all of its tokens in the same way as `parse2`.
     ///
-    /// At the end of the tokens the span is the empty one behind the last, or at the start of the
-    /// text if there is none. So an error at the end has a place in the text.
+    /// The spans refer to source number `number`. An error at the end of the text has an empty
+    /// span. This span is after the last token, or at the start of the text if there are no tokens.
+    /// If the lexer rejects the text, the error has the span and the description that
+    /// `LexError::explain` returns.
     ///
     /// # Requires
     ///
-    /// The parser must be callable on the stream of the text's tokens, if it has any.
+    /// If `text` can be lexed, the parser must be callable on the stream of its tokens.
     fn parse_text(self, alloc: Global, number: u32, text: &str) -> Result<Self::Output>
         requires { OnTextOf number (callable self) (chars text.now) }
         ensures { ParsesTextOf number (parses self) (chars text.now) result };
 
-    /// Lexes a Rust source of an edition by the rules of `lex_source`, as source 0, and parses its
-    /// tokens as `parse2` does.
+    /// Lexes a whole Rust source file of the edition `edition`, and parses all of its tokens in the
+    /// same way as `parse2`.
     ///
-    /// Their end is that of `parse_text`, so an error at the end has a place in the source.
+    /// The call lexes the text by the rules of `lex_source`, and the spans refer to source number
+    /// 0. Errors of the lexer, and errors at the end of the text, have the same spans as in
+    /// `parse_text`.
     ///
     /// # Requires
     ///
-    /// The parser must be callable on the stream of the source's tokens, if it has any.
+    /// If `text` can be lexed, the parser must be callable on the stream of its tokens.
     fn parse_source(self, alloc: Global, edition: Edition, text: &str) -> Result<Self::Output>
         requires { OnSource edition (callable self) (chars text.now) }
         ensures { ParsesSource edition (parses self) (chars text.now) result };
 
-    /// Parses all of these tokens as `parse2` does. At their end the stream's span is `scope`.
+    /// Parses all tokens of a `TokenStream` in the same way as `parse2`. An error at the end of the
+    /// stream has the span `scope`.
     ///
     /// # Requires
     ///
-    /// The parser must be callable on the stream of these tokens.
+    /// The parser must be callable on the stream of `tokens`.
     fn parse_scoped(self, alloc: Global, scope: Span, tokens: TokenStream) -> Result<Self::Output>
         requires { callable self (whole_stream tokens scope) }
         ensures { ParsesWhole (parses self) (whole_stream tokens scope) result };
@@ -117,7 +127,7 @@ where
                 let parsed = self(&mut input);
                 settle(parsed, input)
             }
-            Err(fault) => Err(unread(alloc, fault)),
+            Err(fault) => Err(explained(alloc, text, fault)),
         }
     }
 
@@ -128,7 +138,7 @@ where
                 let parsed = self(&mut input);
                 settle(parsed, input)
             }
-            Err(fault) => Err(unread(alloc, fault)),
+            Err(fault) => Err(explained(alloc, text, fault)),
         }
     }
 
@@ -185,6 +195,19 @@ pub(crate) fn unread(alloc: Global, fault: LexFault) -> Fault
 {
     match fault {
         LexFault::Refused(error) => Fault::refused(Error::from_lex(alloc, error)),
+        LexFault::Memory => Fault::Memory(AllocError),
+    }
+}
+
+// Returns the error of a text that the lexer rejects, explained to readers of the text.
+pub(crate) fn explained(alloc: Global, text: &str, fault: LexFault) -> Fault
+    ensures { IsExplained (chars text.now) fault result }
+{
+    match fault {
+        LexFault::Refused(error) => {
+            let (span, words) = error.explain(text);
+            Fault::at(alloc, span, words)
+        }
         LexFault::Memory => Fault::Memory(AllocError),
     }
 }

@@ -1,4 +1,4 @@
-//! Parsers of tokens that are given by their text.
+//! Functions that parse or peek at a token with a given text.
 ghost use Rattle.std.specs.Prelude.{◌≡◌, ◌∷◌, [], Some, None, MatchOption, is_some};
 ghost use Rattle.std.specs.Str.{chars};
 ghost use Rattle.tok_core.specs.Forest.{leaf};
@@ -14,9 +14,10 @@ use crate::stream::{ParseBuffer, ParseStream};
 use tok_buffer::Cursor;
 use tok_core::Span;
 
-/// Parses the identifier with this text, and returns its span.
+/// Parses an identifier with the text `text`, and returns its span.
 ///
-/// If it is not next, the error names it and the stream stays. The empty text is always an error.
+/// If this identifier is not next, returns an error that names `text`, and the stream does not
+/// move. If `text` is empty, the call always returns an error.
 ///
 /// # Examples
 ///
@@ -37,11 +38,12 @@ pub fn keyword(input: ParseStream<'_, '_>, text: &str) -> Result<Span>
     }
 }
 
-/// Parses the puncts that are the characters of this text, each but the last joint. Returns their
-/// spans.
+/// Parses the puncts that are the characters of `text`, and returns their spans.
 ///
-/// If they are not next, the error names the text and the stream stays. It is always an error
-/// unless the text is ASCII and has `N` bytes, at least one.
+/// Each punct except the last must be joint. If these puncts are not next, returns an error that
+/// names `text`, and the stream does not move.
+///
+/// If `text` is not ASCII, is empty or does not have `N` bytes, the call always returns an error.
 ///
 /// # Examples
 ///
@@ -65,7 +67,9 @@ pub fn punct<const N: usize>(input: ParseStream<'_, '_>, text: &str) -> Result<[
     }
 }
 
-/// Returns `true` if the next puncts are the characters of this text, each but the last joint.
+/// Returns `true` if the next puncts at `cursor` are the characters of `text`.
+///
+/// Each punct except the last must be joint.
 pub fn peek_punct(cursor: Cursor<'_>, text: &str) -> bool
     ensures { result ≡ is_some (read_punctuation (chars text.now) (place_of cursor.entry)) }
 {

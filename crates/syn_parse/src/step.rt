@@ -1,4 +1,4 @@
-//! Parsers that are written over cursors.
+//! The method `step`, with which a parser reads tokens through a cursor.
 ghost use Rattle.std.specs.Prelude.{◌≡◌, Ok, IfSome};
 ghost use Rattle.tok_buffer.specs.Cursors.{place_of};
 ghost use Rattle.tok_buffer.specs.declared.cursor.Cursor.{Cursor};
@@ -16,7 +16,9 @@ use std::fmt::Display;
 use tok_buffer::{Cursor, Error};
 use tok_core::Span;
 
-/// The argument of the function of a `step`: the stream's cursor, and errors at it.
+/// The argument of the function that a parser passes to `ParseBuffer::step`.
+///
+/// A `StepCursor` provides the cursor of the stream, and creates errors at this cursor.
 #[derive(Clone, Copy, Debug)]
 pub struct StepCursor<'a> {
     alloc: Global,
@@ -25,14 +27,16 @@ pub struct StepCursor<'a> {
 }
 
 impl<'a> StepCursor<'a> {
-    /// Returns the cursor at the stream's place.
+    /// Returns the cursor at the position of the stream.
     pub fn cursor(self) -> Cursor<'a>
         ensures { place_of result ≡ (step_state self.entry).place }
     {
         self.cursor
     }
 
-    /// Returns an error with this message where the step begins, as `ParseBuffer::error` does.
+    /// Creates an error with the message `message`, in the same way as `ParseBuffer::error`.
+    ///
+    /// The error is at the position at which the step began.
     pub fn error<T: Display + Drop>(self, message: T) -> Fault
         ensures span { RefusesAt (state_span (step_state self.entry)) result }
         ensures words { IfSome (T.output message)
@@ -43,18 +47,20 @@ impl<'a> StepCursor<'a> {
 }
 
 impl<'a> ParseBuffer<'a> {
-    /// Runs `f` on the stream's cursor, moves to the cursor that it returns, and returns its value.
+    /// Runs `f` on the cursor of the stream, and moves the stream to the cursor that `f` returns.
     ///
-    /// If `f` returns an error, the stream stays.
+    /// Returns the value of `f`. If `f` returns an error, the stream does not move.
     ///
     /// # Requires
     ///
-    /// - `f` must be callable on the stream's cursor.
-    /// - The cursor that it returns must be in the same scope and no earlier, or empty.
+    /// - `f` must be callable on the cursor of the stream.
+    /// - The cursor that `f` returns must be empty, or in the same scope and not earlier than the
+    ///   cursor of the stream.
     ///
     /// # Examples
     ///
-    /// The contract of `f` says that its cursor stays in the scope. The law `reads_go_on` proves it.
+    /// The contract of `f` states that its cursor stays in the scope. The law `reads_go_on` proves
+    /// this.
     ///
     /// ```rust
     /// input.step(

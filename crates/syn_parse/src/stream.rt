@@ -1,4 +1,4 @@
-//! Parse streams, and streams at rest.
+//! The types of parse streams and of paused streams.
 ghost use Rattle.std.specs.Prelude.{◌≡◌, None, true, IfSome, MatchOption, Ok};
 ghost use Rattle.std.specs.Fn.{FnOnceReturnsAtMut, FnOnceTakesAtMut};
 ghost use Rattle.tok_core.specs.Laws.{IsTheOnly};
@@ -21,15 +21,15 @@ use std::marker::Model;
 use tok_buffer::{Cursor, Error, TokenBuffer};
 use tok_core::{Delimiter, Span};
 
-/// The stream that a parser reads from: a place in a buffer, in the scope of the buffer or of a
-/// group.
+/// A stream of tokens from which a parser reads.
 ///
-/// Contracts see it as the place, the span of its scope, and a leftover: the first token that a
-/// closed group left unread.
+/// A stream is a position in a buffer, with a scope that is the whole buffer or the contents of a
+/// group. Contracts describe a stream as its position, the span of the end of its scope, and a
+/// leftover. The leftover is the first token that was left unread in a closed group.
 ///
-/// Each stream must be ended, by `close`, `discard`, `advance_to`, `finish` or `pause`. A function
-/// that lets one go out of scope, even by an early `?`, doesn't compile. So no token stays unread
-/// unnoticed.
+/// Each stream must be ended with `close`, `discard`, `advance_to`, `finish` or `pause`. A function
+/// that lets a stream go out of scope, even through an early `?`, does not compile. A parser can
+/// therefore not ignore unread tokens by mistake.
 pub struct ParseBuffer<'a> {
     alloc: Global,
     cursor: Cursor<'a>,
@@ -55,10 +55,14 @@ impl<'a> Model for ParseBuffer<'a> {
     } };
 }
 
-/// The argument of a parser, which is a function `fn(ParseStream) -> Result<T>`.
+/// The argument type of parsers, which is a mutable reference to a `ParseBuffer`.
+///
+/// A parser is a function `fn(ParseStream) -> Result<T>`.
 pub type ParseStream<'p, 'a> = &'p mut ParseBuffer<'a>;
 
-/// Creates a stream over a whole buffer. At the end of the buffer its span is `scope`.
+/// Creates a parse stream over all tokens of the buffer `tokens`.
+///
+/// `scope` is the span of the end of the stream.
 pub fn tokens_to_parse_buffer<'a>(
     alloc: Global,
     tokens: &'a TokenBuffer,
@@ -93,8 +97,9 @@ impl<'a> ParseBuffer<'a> {
         }
     }
 
-    /// Returns the allocator for the parsers of this stream. A program has one `Global`, so all
-    /// streams share it.
+    /// Returns the allocator for the parsers of this stream.
+    ///
+    /// All streams have the same allocator, because a program has only one `Global`.
     pub fn allocator(&self) -> Global
         ensures { IsTheOnly result }
     {
@@ -113,15 +118,17 @@ impl<'a> ParseBuffer<'a> {
         self.cursor = cursor;
     }
 
-    /// Returns the cursor at the stream's place.
+    /// Returns the cursor at the position of the stream.
     pub fn cursor(&self) -> Cursor<'a>
         ensures { place_of result ≡ self.now.place }
     {
         self.cursor
     }
 
-    /// Returns `true` at the end of the stream's scope. An invisible group counts as a token, even
-    /// if empty.
+    /// Returns `true` if the stream is at the end of its scope.
+    ///
+    /// If the next tree is an invisible group, the stream is not at the end, even if the group is
+    /// empty.
     ///
     /// # Examples
     ///
@@ -139,8 +146,9 @@ impl<'a> ParseBuffer<'a> {
 
     /// Returns the span of the next token, or of the opening delimiter of the next group.
     ///
-    /// At the end of a group it is the span of the closing delimiter. At the end of a whole stream
-    /// it is the span that was passed when the stream was made, or the call site.
+    /// At the end of a group, returns the span of the closing delimiter. At the end of a stream
+    /// that is not in a group, returns the span that was given when the stream was created. For
+    /// `parse2` and `parse_str`, this span is the call site.
     pub fn span(&self) -> Span
         ensures { result ≡ state_span self.now }
     {
@@ -151,8 +159,10 @@ impl<'a> ParseBuffer<'a> {
         }
     }
 
-    /// Returns an error with this message, at the stream's span. At the end, the text begins with
-    /// "unexpected end of input, ".
+    /// Creates an error with the message `message` at the next token.
+    ///
+    /// The error has the span that the method `span` returns. At the end of the stream, the text
+    /// begins with "unexpected end of input, ".
     ///
     /// # Examples
     ///
@@ -206,21 +216,25 @@ impl<'a> ParseBuffer<'a> {
         Fault::of_text(self.alloc, self.span(), words)
     }
 
-    /// Returns a second stream at the same place, which reads independently.
+    /// Creates a fork, which is a second stream at the same position. The two streams can be read
+    /// independently.
     ///
-    /// End it by `advance_to`, which moves a stream to its place, or by `discard`.
+    /// End the fork with `advance_to`, which moves a stream to the position of the fork, or with
+    /// `discard`.
     pub fn fork(&self) -> Self
         ensures { result ≡ forked self.now }
     {
         ParseBuffer::made(self.alloc, self.cursor, self.scope_span, None)
     }
 
-    /// Moves to the fork's place, and ends the fork. A leftover that the fork has recorded is
-    /// recorded here, unless one is already.
+    /// Moves this stream to the position of `fork`, and ends the fork.
+    ///
+    /// If the fork has recorded a leftover (an unread token of a closed group), this stream records
+    /// the same leftover. If this stream already has a leftover, the call does not replace it.
     ///
     /// # Requires
     ///
-    /// The fork must be in the stream's scope.
+    /// `fork` must be in the scope of this stream.
     pub fn advance_to(&mut self, fork: Self)
         requires { same_scope self.old.place fork.place ≡ true }
         ensures moves { self.new ≡ advanced fork.entry self.old }
@@ -253,10 +267,12 @@ impl<'a> ParseBuffer<'a> {
         }
     }
 
-    /// Closes a group's stream. Records its leftover here, unless one is already recorded.
+    /// Ends `content`, the stream of a group's contents, and records its leftover in this stream.
     ///
-    /// The leftover is the one it has recorded itself, or else its first unread token. `finish`
-    /// reports it.
+    /// A leftover is an unread token, which `finish` reports as an error. The leftover of `content`
+    /// is the one that `content` has recorded itself, or otherwise the first unread token of
+    /// `content`, if there is one. If this stream already has a leftover, the call does not replace
+    /// it.
     pub fn close(&mut self, content: Self)
         ensures closes { self.new ≡ closed content.entry self.old }
         ensures takes { ahead self.new ≡ after_content (ahead content.entry) (ahead self.old) }
@@ -273,7 +289,7 @@ impl<'a> ParseBuffer<'a> {
         self.noted = self.noted.or(note);
     }
 
-    /// Ends a stream, whatever it leaves unread.
+    /// Ends the stream without checking for unread tokens.
     pub fn discard(self) {
         let ParseBuffer {
             alloc: _,
@@ -283,7 +299,10 @@ impl<'a> ParseBuffer<'a> {
         } = self;
     }
 
-    /// Ends a stream. Returns an error if a leftover is recorded, or if a token is left unread.
+    /// Ends the stream, and checks that all of its tokens were read.
+    ///
+    /// Returns an error if a token is unread, or if the stream has recorded an unread token of a
+    /// closed group.
     pub fn finish(self) -> Result<()>
         ensures { MatchOption (handed self.entry) (result ≡ Ok tt)
             (λ left. FailsWith (leftover_message left) result) }
@@ -301,8 +320,9 @@ impl<'a> ParseBuffer<'a> {
         }
     }
 
-    /// Puts the stream at rest. The result may be copied and dropped, and `resume` makes it a
-    /// stream again.
+    /// Converts the stream into a paused stream, which may be copied and dropped.
+    ///
+    /// The method `Paused::resume` converts a paused stream back into a stream.
     pub fn pause(self) -> Paused<'a>
         ensures { paused_state result ≡ self.entry }
     {
@@ -320,7 +340,7 @@ impl<'a> ParseBuffer<'a> {
         }
     }
 
-    /// Exchanges two streams: their places, scopes and leftovers.
+    /// Swaps this stream and `other`, including their positions, scopes and leftovers.
     pub fn swap(&mut self, other: &mut Self)
         ensures mine { self.new ≡ other.old }
         ensures theirs { other.new ≡ self.old }
@@ -328,12 +348,13 @@ impl<'a> ParseBuffer<'a> {
         std::mem::swap(self, other);
     }
 
-    /// Runs a parser on this stream, and returns its result. The stream stays where the parser left
-    /// it.
+    /// Runs the parser `f` on this stream, and returns the result of `f`.
+    ///
+    /// After the call, the stream is where the parser left it.
     ///
     /// # Requires
     ///
-    /// The parser must be callable on this stream.
+    /// `f` must be callable on this stream.
     ///
     /// # Examples
     ///
@@ -350,8 +371,10 @@ impl<'a> ParseBuffer<'a> {
     }
 }
 
-/// A stream at rest, made by `ParseBuffer::pause`. It may be copied and dropped: what a dropped one
-/// leaves unread is recorded nowhere.
+/// A paused parse stream, which may be copied and dropped.
+///
+/// The method `ParseBuffer::pause` creates a paused stream, and `resume` converts it back into a
+/// stream. If a paused stream is dropped, its unread tokens are not recorded.
 #[derive(Clone, Copy, Debug)]
 pub struct Paused<'a> {
     alloc: Global,
@@ -363,14 +386,14 @@ pub struct Paused<'a> {
 impl<'a> Paused<'a> {
     ghost use Rattle.syn_parse.specs.Pauses.{paused_state};
 
-    /// Returns the cursor at the place where the stream was paused.
+    /// Returns the cursor at the position where the stream was paused.
     pub fn cursor(&self) -> Cursor<'a>
         ensures { place_of result ≡ (paused_state self.now).place }
     {
         self.cursor
     }
 
-    /// Returns the stream, as it was when it was paused.
+    /// Converts the paused stream back into a stream with the same position, scope and leftover.
     pub fn resume(self) -> ParseBuffer<'a>
         ensures { result ≡ paused_state self.entry }
     {
@@ -378,7 +401,9 @@ impl<'a> Paused<'a> {
     }
 }
 
-/// Writes the trees that are left, as their stream is printed. Nothing is allocated.
+/// Writes the remaining trees of the scope in the same form as the `Display` of a `TokenStream`.
+///
+/// The call does not allocate.
 impl Display for ParseBuffer<'_> {
     ghost use Rattle.std.specs.Prelude.{Some};
     ghost use Rattle.tok_buffer.specs.Rest.{rest};
@@ -391,7 +416,7 @@ impl Display for ParseBuffer<'_> {
     }
 }
 
-/// Writes the trees that are left, as `ParseBuffer(a b)`.
+/// Writes the remaining trees of the scope, as in `ParseBuffer(a b)`.
 impl Debug for ParseBuffer<'_> {
     ghost use Rattle.std.specs.Prelude.{◌++◌, codes, Some};
     ghost use Rattle.tok_buffer.specs.Rest.{rest};

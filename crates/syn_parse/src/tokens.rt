@@ -1,11 +1,12 @@
-//! Parsers of keywords, punctuations, `_` and nothing.
+//! Implementations of `Parse` for keywords, punctuation tokens and `_`, and the type `Nothing`.
 ghost use Rattle.std.specs.Prelude.{codes};
 ghost use Rattle.tok_types.specs.Printed.{first_span};
 ghost use Rattle.tok_types.specs.Texts.{keyword_text, punctuation_word};
 ghost use Rattle.syn_parse.specs.Parses.{NothingParses, PunctuationParses, WordParses};
 ghost use Rattle.syn_parse.specs.Takings.{lighter, lower, told};
-ghost use Rattle.syn_parse.specs.Tokens.{take_keyword, take_nothing, take_punctuation, take_underscore};
-ghost use Rattle.syn_parse.specs.Lighter.{lightens_gives, lowers_keyword, lowers_punctuation, lowers_underscore};
+ghost use Rattle.syn_parse.specs.Tokens as spec;
+ghost use Rattle.syn_parse.specs.Tokens.{take_nothing, take_token, take_underscore};
+ghost use Rattle.syn_parse.specs.Lighter.{lightens_gives, lowers_token};
 
 use crate::fault::Result;
 use crate::parse::Parse;
@@ -18,7 +19,7 @@ use tok_types::token::{Keyword, Punctuation, Underscore, keyword_text, punctuati
 impl<const K: usize> Parse for Keyword<K> {
     ghost parses = { WordParses (λ k. k.span) (keyword_text K) };
 
-    ghost takes = { told (λ v. v) (take_keyword K) (lower (lowers_keyword K)) };
+    ghost takes = { told (λ v. v) (take_token (spec.keyword K)) (lower (lowers_token _)) };
 
     fn parse(input: ParseStream<'_, '_>) -> Result<Self> {
         keyword_token(input)
@@ -37,14 +38,17 @@ impl<const K: usize, const N: usize> Parse for Punctuation<K, N> {
     ghost parses = { PunctuationParses (λ p. p.spans) (punctuation_word K N)
         (punctuation_word K N) };
 
-    ghost takes = { told (λ v. v) (take_punctuation K N) (lower (lowers_punctuation K N)) };
+    ghost takes = { told (λ v. v) (take_token (spec.punctuation K N)) (lower (lowers_token _)) };
 
+    // Inlined: a call would pass the spans through memory, and takes longer than to read them.
+    #[inline(always)]
     fn parse(input: ParseStream<'_, '_>) -> Result<Self> {
         punctuation_token(input)
     }
 }
 
 // Does what `Punctuation::parse` does.
+#[inline(always)]
 fn punctuation_token<const K: usize, const N: usize>(
     input: ParseStream<'_, '_>,
 ) -> Result<Punctuation<K, N>>
@@ -58,7 +62,7 @@ fn punctuation_token<const K: usize, const N: usize>(
 impl Parse for Underscore {
     ghost parses = { WordParses (λ u. first_span u.spans) (codes "_") };
 
-    ghost takes = { told (λ u. first_span u.spans) take_underscore (lower lowers_underscore) };
+    ghost takes = { told (λ u. first_span u.spans) take_underscore (lower (lowers_token _)) };
 
     fn parse(input: ParseStream<'_, '_>) -> Result<Self> {
         underscore(input)
@@ -73,7 +77,9 @@ fn underscore(input: ParseStream<'_, '_>) -> Result<Underscore>
     Ok(Underscore::from_span(span))
 }
 
-/// A value that is parsed from no tokens. Its `parse` always succeeds, and the stream stays.
+/// A value that consists of no tokens.
+///
+/// Parsing a `Nothing` always succeeds, and does not move the stream.
 #[derive(Clone, Copy, PartialEq, Eq, Hash, Debug)]
 pub struct Nothing;
 

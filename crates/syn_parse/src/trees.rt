@@ -1,11 +1,11 @@
-//! Parsers of trees, identifiers and lifetimes.
+//! Implementations of `Parse` for token trees, leaf tokens, lifetimes and token streams.
 ghost use Rattle.std.specs.Prelude.{◌≡◌, is_some};
 ghost use Rattle.tok_buffer.specs.Cursors.{place_of};
 ghost use Rattle.syn_parse.specs.Parses as spec;
 ghost use Rattle.syn_parse.specs.Parses.{GroupParses, IdentParses, LifetimeParses, LiteralParses, PunctParses, RestParses, TreeParses};
 ghost use Rattle.syn_parse.specs.Takings.{lower, told};
 ghost use Rattle.syn_parse.specs.Tokens.{take_ident, take_lifetime, take_literal, take_punct};
-ghost use Rattle.syn_parse.specs.Lighter.{lowers_ident, lowers_lifetime, lowers_literal, lowers_punct};
+ghost use Rattle.syn_parse.specs.Lighter.{lowers_token};
 
 use crate::fault::Result;
 use crate::parse::Parse;
@@ -14,18 +14,19 @@ use tok_buffer::{Cursor, Lifetime};
 use tok_core::{Delimiter, Group, Ident, Literal, Punct, TokenStream, TokenTree};
 use tok_types::accept_as_ident;
 
-/// Parses an identifier that is no reserved word.
+/// Parses an identifier that is not a reserved word.
 impl Parse for Ident {
     ghost parses = { IdentParses };
 
-    ghost takes = { told (λ v. v) take_ident (lower lowers_ident) };
+    ghost takes = { told (λ v. v) take_ident (lower (lowers_token _)) };
 
     fn parse(input: ParseStream<'_, '_>) -> Result<Self> {
         ident(input)
     }
 }
 
-// Does what `Ident::parse` does.
+// Does what `Ident::parse` does. It stands apart, as those of the other tokens do, so that what
+// `parse` takes is proved of its result, and not at each way out.
 fn ident(input: ParseStream<'_, '_>) -> Result<Ident>
     ensures { IdentParses input.old result input.new }
 {
@@ -46,11 +47,11 @@ fn ident(input: ParseStream<'_, '_>) -> Result<Ident>
     Ok(copy)
 }
 
-/// Parses a lifetime whose name is no reserved word, or is `static` or `_`.
+/// Parses a lifetime. The name may be `static` or `_`, but not another reserved word.
 impl Parse for Lifetime {
     ghost parses = { LifetimeParses };
 
-    ghost takes = { told (λ v. v) take_lifetime (lower lowers_lifetime) };
+    ghost takes = { told (λ v. v) take_lifetime (lower (lowers_token _)) };
 
     fn parse(input: ParseStream<'_, '_>) -> Result<Self> {
         lifetime(input)
@@ -68,12 +69,14 @@ fn lifetime(input: ParseStream<'_, '_>) -> Result<Lifetime>
     if !accept_as_lifetime(name) {
         return Err(input.error(format_args!("unexpected keyword lifetime \"'{name}\"")));
     }
+    let apostrophe = lifetime.apostrophe;
+    if let Some(ident) = lifetime.ident.copied_if_short() {
+        input.move_to(rest);
+        return Ok(Lifetime { apostrophe, ident });
+    }
     let ident = lifetime.ident.clone()?;
     input.move_to(rest);
-    Ok(Lifetime {
-        apostrophe: lifetime.apostrophe,
-        ident,
-    })
+    Ok(Lifetime { apostrophe, ident })
 }
 
 // Returns `true` if `Lifetime::parse` accepts a lifetime with this name.
@@ -87,7 +90,7 @@ fn accept_as_lifetime(name: &str) -> bool
 impl Parse for Literal {
     ghost parses = { LiteralParses };
 
-    ghost takes = { told (λ v. v) take_literal (lower lowers_literal) };
+    ghost takes = { told (λ v. v) take_literal (lower (lowers_token _)) };
 
     fn parse(input: ParseStream<'_, '_>) -> Result<Self> {
         literal(input)
@@ -114,7 +117,7 @@ fn literal(input: ParseStream<'_, '_>) -> Result<Literal>
 impl Parse for Punct {
     ghost parses = { PunctParses };
 
-    ghost takes = { told (λ v. v) take_punct (lower lowers_punct) };
+    ghost takes = { told (λ v. v) take_punct (lower (lowers_token _)) };
 
     fn parse(input: ParseStream<'_, '_>) -> Result<Self> {
         punct(input)
@@ -146,7 +149,7 @@ impl Parse for TokenTree {
     }
 }
 
-/// Parses the next tree if it is a visible group.
+/// Parses the next tree, which must be a visible group.
 impl Parse for Group {
     ghost parses = { GroupParses };
 
@@ -175,7 +178,9 @@ fn is_at_visible_group(cursor: Cursor<'_>) -> bool
     }
 }
 
-/// Parses all that is left. The stream is then at the empty cursor, which is in no scope.
+/// Parses all remaining trees of the scope.
+///
+/// After the call, the stream is at the empty cursor, which is in no scope.
 impl Parse for TokenStream {
     ghost parses = { RestParses };
 

@@ -1,10 +1,11 @@
-//! Any visible tree, and all that is left.
+//! Methods that parse the next visible tree, or all remaining trees of a scope.
 ghost use Rattle.std.specs.Prelude.{◌≡◌, true, IfOk, OnErr, OnOk};
 ghost use Rattle.tok_buffer.specs.Place.{is_at_end};
 ghost use Rattle.tok_buffer.specs.Rest.{rest};
 ghost use Rattle.tok_buffer.specs.Trees.{erased_tree};
 ghost use Rattle.tok_core.specs.Erase.{erase};
 ghost use Rattle.tok_core.specs.Seen.{tree_of};
+ghost use Rattle.syn_parse.specs.State.{moved};
 ghost use Rattle.syn_parse.specs.Takes.{TakesAs};
 ghost use Rattle.syn_parse.specs.TreeTakes.{VisibleTreeParses, take_rest, take_tree};
 
@@ -13,8 +14,10 @@ use crate::stream::ParseBuffer;
 use tok_core::{TokenStream, TokenTree};
 
 impl<'a> ParseBuffer<'a> {
-    /// Parses the next visible tree, whatever it is. Looks through the invisible groups around it,
-    /// and keeps those in it.
+    /// Parses the next visible tree, which may be of any kind.
+    ///
+    /// The call first enters every invisible group that is next. The result includes the invisible
+    /// groups inside the tree.
     ///
     /// # Examples
     ///
@@ -40,9 +43,10 @@ impl<'a> ParseBuffer<'a> {
         Ok(tree)
     }
 
-    /// Parses all trees that are left in the scope, and moves to its end. Invisible groups are kept.
+    /// Parses all remaining trees of the scope, and moves the stream to the end of the scope.
     ///
-    /// `TokenStream::parse` leaves the scope; this stays in it.
+    /// The result includes the remaining invisible groups. After the call, the stream is still in
+    /// its scope. In contrast, `TokenStream::parse` moves the stream to the empty cursor.
     ///
     /// # Examples
     ///
@@ -52,6 +56,7 @@ impl<'a> ParseBuffer<'a> {
     pub fn rest(&mut self) -> Result<TokenStream>
         ensures trees { IfOk result (λ stream. stream ≡ rest self.old.place) }
         ensures ends { OnOk result (is_at_end self.new.place ≡ true) }
+        ensures moves { OnOk result (self.new ≡ moved self.new.place self.old) }
         ensures stays { OnErr result (self.new ≡ self.old) }
         ensures takes { TakesAs erase take_rest self.old result self.new }
     {

@@ -1,4 +1,4 @@
-//! Whole streams and texts.
+//! Functions that parse whole token streams and whole texts.
 ghost use Rattle.std.specs.Str.{chars};
 ghost use Rattle.tok_leaves.specs.Spans.{call_site};
 ghost use Rattle.syn_parse.specs.Parsers.{ParsesText, ParsesWhole, whole_stream};
@@ -7,13 +7,15 @@ ghost use Rattle.syn_parse.specs.Takings.{HasOneMessage, IsTold, KeepsBoth, Keep
 
 use crate::fault::Result;
 use crate::parse::Parse;
-use crate::parser::{settle, source_stream, unread};
+use crate::parser::{explained, settle, source_stream, unread};
 use crate::stream::tokens_to_parse_buffer;
 use std::alloc::Global;
 use tok_buffer::TokenBuffer;
 use tok_core::{Edition, Span, TokenStream};
 
-/// Parses all of these tokens. A leftover token is an error, unless the parser has returned one.
+/// Parses all tokens of a `TokenStream` as a value of type `T`.
+///
+/// Returns the error of the parser, or an error if the parser leaves a token unread.
 ///
 /// # Examples
 ///
@@ -30,9 +32,10 @@ pub fn parse2<T: Parse + Drop>(alloc: Global, tokens: TokenStream) -> Result<T>
     settle(parsed, input)
 }
 
-/// Lexes a text as source 0, and parses its tokens as `parse2` does.
+/// Lexes `text`, and parses all of its tokens in the same way as `parse2`.
 ///
-/// Returns the lexer's error as an `Error` with its span and text.
+/// The spans refer to source number 0. If the lexer rejects the text, the error has the span and
+/// the text of the lexer's error.
 ///
 /// # Examples
 ///
@@ -54,11 +57,12 @@ pub fn parse_str<T: Parse + Drop>(alloc: Global, text: &str) -> Result<T>
     }
 }
 
-/// Lexes a text as source `number`, and parses its tokens as `parse2` does.
+/// Lexes `text`, and parses all of its tokens in the same way as `parse2`.
 ///
-/// At the end of the tokens the span is the empty one behind the last, or at the start of the text
-/// if there is none. So an error at the end has a place in the text. Returns the lexer's error as an
-/// `Error` with its span and text.
+/// The spans refer to source number `number`. An error at the end of the text has an empty span.
+/// This span is after the last token, or at the start of the text if there are no tokens. If the
+/// lexer rejects the text, the error has the span and the description that `LexError::explain`
+/// returns.
 ///
 /// # Examples
 ///
@@ -76,14 +80,15 @@ pub fn parse_text<T: Parse + Drop>(alloc: Global, number: u32, text: &str) -> Re
             let parsed = T::parse(&mut input);
             settle(parsed, input)
         }
-        Err(fault) => Err(unread(alloc, fault)),
+        Err(fault) => Err(explained(alloc, text, fault)),
     }
 }
 
-/// Lexes a Rust source of an edition by the rules of `lex_source`, as source 0, and parses its
-/// tokens as `parse2` does.
+/// Lexes a whole Rust source file of the edition `edition`, and parses all of its tokens in the
+/// same way as `parse2`.
 ///
-/// Their end is that of `parse_text`, so an error at the end has a place in the source.
+/// The call lexes the text by the rules of `lex_source`, and the spans refer to source number 0.
+/// Errors of the lexer, and errors at the end of the text, have the same spans as in `parse_text`.
 pub fn parse_source<T: Parse + Drop>(alloc: Global, edition: Edition, text: &str) -> Result<T>
     ensures reads { ParsesSource edition T.parses (chars text.now) result }
     ensures takes { KeepsSource edition T.takes (chars text.now) result }
@@ -95,15 +100,19 @@ pub fn parse_source<T: Parse + Drop>(alloc: Global, edition: Edition, text: &str
             let parsed = T::parse(&mut input);
             settle(parsed, input)
         }
-        Err(fault) => Err(unread(alloc, fault)),
+        Err(fault) => Err(explained(alloc, text, fault)),
     }
 }
 
-/// Parses two streams. If they differ only in invisible groups, the results agree.
+/// Parses `left` and `right` as values of the same type, and returns both results.
+///
+/// Suppose that the streams differ only in invisible groups, that every invisible group contains a
+/// visible tree, and that no allocation fails. Then either both results are values, or both are
+/// errors. Two values agree in everything that the contract of `T` describes.
 ///
 /// # Requires
 ///
-/// The type must state what it takes. Of another, nothing could be said of both results.
+/// The contract of `T::parse` must state which tokens it reads.
 pub fn parse_both<T: Parse + Drop>(
     alloc: Global,
     left: TokenStream,

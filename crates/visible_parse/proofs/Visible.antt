@@ -7,10 +7,11 @@ use Rattle.tok_leaves.specs.Spans.{call_site}
 use Rattle.tok_pruned.specs.Pruned.{pruned}
 use Rattle.tok_pruned.proofs.Pruning.{erase_pruned, filled_pruned}
 use Rattle.syn_parse.proofs.Finished.{results_agree, words_agree}
+use Rattle.syn_parse.proofs.Premises.{given, premise}
 use Rattle.syn_parse.proofs.WholeTakes.{memory_keeps}
 use Rattle.syn_parse.specs.Parsers.{OnMemory}
 use Rattle.syn_parse.specs.Takes.{Agree, ErrorsAgree, MemoryOr, SaysAll, Taking, TakesAll, found}
-use Rattle.syn_parse.specs.Takings.{KeepsWhole, Takings, told, told_filled, untold}
+use Rattle.syn_parse.specs.Takings.{KeepsWhole, Takings, stated, untold}
 use Rattle.syn_parse.specs.TreesAhead.{Ahead, all_taken, only_trees, whole}
 use Rattle.syn_parse.specs.declared.fault.Fault.{Fault}
 use Rattle.visible_parse.specs.Visible.{AgreeAs, KeepsVisible, SaySame, TakesVisible}
@@ -84,8 +85,8 @@ module _ {T : Type 0} where
   pub keeps_visible : (takes : Takings T) (f : Forest) (r : Result T Fault)
       → KeepsWhole takes (pruned f) call_site r → KeepsVisible takes f r
   keeps_visible untold f r h = tt
-  keeps_visible (told form take w) f r h = takes_visible form take f r h
-  keeps_visible (told_filled form take w) f r h = takes_visible form take f r (h (filled_pruned f))
+  keeps_visible (stated alone form take w) f r h =
+      takes_visible form take f r (given alone _ _ h (premise alone _ (filled_pruned f)))
 
   pub fails_visibly : (takes : Takings T) (f : Forest) (r : Result T Fault) → OnMemory r
       → KeepsVisible takes f r
@@ -94,12 +95,10 @@ module _ {T : Type 0} where
   pub both_agree : (takes : Takings T) (f g : Forest) (x y : Result T Fault)
       → KeepsVisible takes f x → KeepsVisible takes g y → erase f ≡ erase g → AgreeAs takes x y
   both_agree untold f g x y h k e = tt
-  both_agree (told form take w) f g x y h k e = agree_visibly form take f g e x y h k
-  both_agree (told_filled form take w) f g x y h k e = agree_visibly form take f g e x y h k
+  both_agree (stated alone form take w) f g x y h k e = agree_visibly form take f g e x y h k
 
   pub both_say : (takes : Takings T) (f g : Forest) (x y : Result T Fault)
       → KeepsVisible takes f x → KeepsVisible takes g y → erase f ≡ erase g
       → SaySame takes f x y
   both_say untold f g x y h k e = tt
-  both_say (told form take w) f g x y h k e = say_same form take f g e x y h k
-  both_say (told_filled form take w) f g x y h k e = say_same form take f g e x y h k
+  both_say (stated alone form take w) f g x y h k e = say_same form take f g e x y h k

@@ -4,7 +4,7 @@ use Rattle.tok_core.specs.Forest.{Forest}
 use Rattle.tok_leaves.specs.Spans.{call_site}
 use Rattle.tok_pruned.specs.Pruned.{pruned}
 use Rattle.syn_parse.specs.Takes.{Agree, ErrorsAgree, IsAll, MemoryOr, SaysAll, Taking}
-use Rattle.syn_parse.specs.Takings.{Takings, told, told_filled, untold}
+use Rattle.syn_parse.specs.Takings.{Takings, stated, untold}
 use Rattle.syn_parse.specs.TreesAhead.{whole}
 use Rattle.syn_parse.specs.declared.fault.Fault.{Fault}
 
@@ -18,18 +18,15 @@ TakesVisible {A} form take f (Err e) =
 -- the visible trees of a stream are read as the type states
 abbrev pub KeepsVisible : {T : Type 0} → Takings T → Forest → Result T Fault → Type 0
 KeepsVisible untold f r = Unit {0}
-KeepsVisible (told form take weighs) f r = TakesVisible form take f r
-KeepsVisible (told_filled form take weighs) f r = TakesVisible form take f r
+KeepsVisible (stated alone form take w) f r = TakesVisible form take f r
 
 -- two results agree, in the form in which contracts see the type's values
 abbrev pub AgreeAs : {T : Type 0} → Takings T → (left right : Result T Fault) → Type 0
 AgreeAs untold left right = Unit {0}
-AgreeAs (told form take weighs) left right = Agree form left right
-AgreeAs (told_filled form take weighs) left right = Agree form left right
+AgreeAs (stated alone form take w) left right = Agree form left right
 
 -- two errors have equal texts if a token is missing from these visible trees, and equal spans if
 -- one is left over
 abbrev pub SaySame : {T : Type 0} → Takings T → Forest → (left right : Result T Fault) → Type 0
 SaySame untold f left right = Unit {0}
-SaySame (told form take weighs) f left right = ErrorsAgree (take (whole f)) left right
-SaySame (told_filled form take weighs) f left right = ErrorsAgree (take (whole f)) left right
+SaySame (stated alone form take w) f left right = ErrorsAgree (take (whole f)) left right

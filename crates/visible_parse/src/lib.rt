@@ -1,7 +1,9 @@
-//! Parses what is visible of a stream of tokens, whatever invisible groups it has.
+//! Functions that parse the visible tokens of a stream, regardless of the stream's invisible
+//! groups.
 //!
-//! Each call removes the invisible groups that contain nothing visible, and then parses as the call
-//! of `syn_parse` does. So no contract here asks that a stream is filled.
+//! Each function first removes the invisible groups that contain nothing visible. It then parses
+//! the stream in the same way as the corresponding function of `syn_parse`. Therefore, no contract
+//! in this crate requires that the invisible groups of a stream contain visible tokens.
 #![tactic(auto)]
 
 mod whole;

@@ -1,4 +1,4 @@
-//! Whole streams, read by their visible tokens.
+//! Functions that parse the visible tokens of whole token streams.
 ghost use Rattle.std.specs.Prelude.{◌≡◌};
 ghost use Rattle.syn_parse.specs.Parsers.{ParsesWhole, whole_stream};
 ghost use Rattle.syn_parse.specs.Takings.{IsTold};
@@ -12,10 +12,11 @@ use syn_parse::{Parse, Parser, Result, parse2};
 use tok_core::TokenStream;
 use tok_pruned::prune;
 
-/// Parses all visible tokens, as `parse2` does after `prune`.
+/// Parses all visible tokens of a stream as a `T`.
 ///
-/// A leftover token is an error, unless the parser has returned one. Invisible groups that contain
-/// nothing visible make no difference.
+/// The call first uses `prune` to remove the invisible groups that contain nothing visible. It then
+/// parses the stream in the same way as `parse2`. If the parser returns a value but leaves a token
+/// unread, the call returns an error.
 ///
 /// # Examples
 ///
@@ -31,11 +32,14 @@ pub fn parse_visible<T: Parse + Drop>(alloc: Global, tokens: TokenStream) -> Res
     parse2(alloc, filled)
 }
 
-/// Parses all visible tokens by this parser, as `Parser::parse2` does after `prune`.
+/// Parses all visible tokens of a stream with `parser`.
+///
+/// The call first uses `prune` to remove the invisible groups that contain nothing visible. It then
+/// parses the stream in the same way as `Parser::parse2`.
 ///
 /// # Requires
 ///
-/// The parser must be callable on the stream of the tokens, pruned.
+/// `parser` must be callable on the stream of the pruned tokens.
 ///
 /// # Examples
 ///
@@ -55,15 +59,16 @@ pub fn parse_visible_with<P: Parser + Drop>(
     parser.parse2(alloc, visible)
 }
 
-/// Parses the visible tokens of two streams.
+/// Parses the visible tokens of two streams, `left` and `right`, and returns both results.
 ///
-/// If their visible tokens are equal, spans included, the results agree (`agree`): equal values, or
-/// two errors, which have equal texts if a token is missing (`words`). This holds for every type
-/// that states what it takes, whatever invisible groups the streams have.
+/// Suppose that the visible tokens of both streams are equal, including their spans, and that no
+/// allocation fails. Then either both results are values, or both are errors. Two values agree in
+/// everything that the contract of `T` describes. If a token is missing, both errors have the same
+/// text.
 ///
 /// # Requires
 ///
-/// The type must state what it takes. Of another, nothing could be said of both results.
+/// The contract of `T` must state which tokens a `T` is parsed from.
 ///
 /// # Examples
 ///

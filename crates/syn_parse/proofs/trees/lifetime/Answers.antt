@@ -30,6 +30,21 @@ returns-then-not-accept_as_lifetime c =
     c.error.result) c.as_str-name.ensures
     c.error.ensures.words)
 
+pub returns-in-Some-copied_if_short : goal.returns-in-Some-copied_if_short
+returns-in-Some-copied_if_short c =
+    let i = c.in-Some.lifetime.ident.now in
+    let h : accept_as_lifetime i.text ≡ true =
+    ap accept_as_lifetime (sym c.as_str-name.ensures) ∙ sym c.accept_as_lifetime.ensures
+    ∙ c.if-not-accept_as_lifetime.false in
+    let copy : c.in-Some-copied_if_short.ident ≡ i = search rules in
+    rw (c.move_to.ensures, copy)
+    (lifetime-value c.args.input.now (record {
+      apostrophe =
+          c.in-Some.lifetime.apostrophe;
+      ident = i;
+    }) (place_of c.in-Some.rest)
+    (ap (read_lifetime any_text) (sym c.cursor.ensures) ∙ c.in-Some.ensures) h)
+
 pub returns : goal.returns
 returns c =
     let i = c.in-Some.lifetime.ident.now in
@@ -37,7 +52,7 @@ returns c =
     ap accept_as_lifetime (sym c.as_str-name.ensures) ∙ sym c.accept_as_lifetime.ensures
     ∙ c.if-not-accept_as_lifetime.false in
     let copy : c.in_ok-ident.ident ≡ i = search rules in
-    rw (c.move_to.ensures, copy)
+    rw (c.move_to-2.ensures, copy)
     (lifetime-value c.args.input.now (record {
       apostrophe =
           c.in-Some.lifetime.apostrophe;

@@ -5,7 +5,7 @@ use Rattle.tok_leaves.specs.Spans.{call_site}
 use Rattle.tok_core.proofs.Lexical.Visible.{all_visible}
 use Rattle.syn_parse.specs.Parsers.{whole_stream}
 use Rattle.syn_parse.specs.Takings.{Keeps}
-use Rattle.syn_parse.proofs.WholeTakes.{text_once, whole_keeps}
+use Rattle.syn_parse.proofs.WholeTakes.{lexer_once, text_once, whole_keeps}
 use Rattle.syn_parse.proofs.whole.parse_str.Goals as goal
 
 pub returns-in-Ok-clause-takes : goal.returns-in-Ok-clause-takes
@@ -25,5 +25,7 @@ returns-in-Ok-clause-takes g c =
 
 pub returns-in-Ok-clause-once : goal.returns-in-Ok-clause-once
 returns-in-Ok-clause-once g c =
-    text_once 0 (λ f. call_site) g.T.Parse.takes (chars c.args.text.now) c.settle.result
+    text_once 0 (λ f. call_site) _ (lexer_once _) g.T.Parse.takes
+    (chars c.args.text.now)
+    c.settle.result
     (returns-in-Ok-clause-takes g c)

@@ -4,7 +4,7 @@ use Rattle.tok_lexical.specs.declared.rule.Mode.TheVariants.{Plain}
 use Rattle.tok_core.proofs.Lexical.Visible.{all_visible}
 use Rattle.syn_parse.specs.Sources.{end_of_tokens, source_stream}
 use Rattle.syn_parse.specs.Takings.{Keeps}
-use Rattle.syn_parse.proofs.WholeTakes.{text_once, whole_keeps}
+use Rattle.syn_parse.proofs.WholeTakes.{explained_once, text_once, whole_keeps}
 use Rattle.syn_parse.proofs.whole.parse_text.Goals as goal
 
 pub returns-in-Ok-clause-takes : goal.returns-in-Ok-clause-takes
@@ -26,6 +26,7 @@ returns-in-Ok-clause-takes g c =
 
 pub returns-in-Ok-clause-once : goal.returns-in-Ok-clause-once
 returns-in-Ok-clause-once g c =
-    text_once c.args.number (end_of_tokens c.args.number) g.T.Parse.takes (chars c.args.text.now)
-    c.settle.result
+    let text = chars c.args.text.now in
+    text_once c.args.number (end_of_tokens c.args.number) _ (explained_once _ text)
+    g.T.Parse.takes text c.settle.result
     (returns-in-Ok-clause-takes g c)

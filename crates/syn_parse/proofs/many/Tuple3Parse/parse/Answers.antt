@@ -1,6 +1,6 @@
-use Rattle.std.proofs.Common.{inl, inr, rules}
+use Rattle.std.proofs.Common.{inl, inr, rules, Ok, Err}
 use Rattle.syn_parse.proofs.Returned.{error_calls, error_keeps}
-use Rattle.syn_parse.proofs.Sequences.{three_first, three_found, three_second, three_third}
+use Rattle.syn_parse.proofs.Sequences.{three_keep}
 use Rattle.syn_parse.specs.Reads.{ThreeParse, does}
 use Rattle.syn_parse.proofs.many.Tuple3Parse.parse.Goals as goal
 
@@ -8,32 +8,46 @@ pub returns-in_err-first-clause-takes : goal.returns-in_err-first-clause-takes
 returns-in_err-first-clause-takes g c =
     error_keeps _ c.args.input.now c.parse.new.self c.in_err-first.field-0.0 c.from_residual.result
     (search rules)
-    (three_first g.A.Parse.takes g.B.Parse.takes g.C.Parse.takes c.args.input.now c.parse.new.self
-    c.in_err-first.field-0.0 c.in_err-first.ensures.takes)
+    (three_keep g.A.Parse.takes g.B.Parse.takes g.C.Parse.takes c.args.input.now
+    (Err c.in_err-first.field-0.0) c.parse.new.self (inl c.in_err-first.ensures.takes))
 
 pub returns-in_err-second-clause-takes : goal.returns-in_err-second-clause-takes
 returns-in_err-second-clause-takes g c =
     error_keeps _ c.args.input.now c.parse-2.new.self c.in_err-second.field-0.0
     c.from_residual-in_err-second.result (search rules)
-    (three_second g.A.Parse.takes g.B.Parse.takes g.C.Parse.takes c.args.input.now c.parse.new.self
-    c.parse-2.new.self c.in_ok-first.first c.in_err-second.field-0.0 c.in_ok-first.ensures.takes
-    c.in_err-second.ensures.takes)
+    (three_keep g.A.Parse.takes g.B.Parse.takes g.C.Parse.takes c.args.input.now
+    (Err c.in_err-second.field-0.0) c.parse-2.new.self (inr (
+      c.in_ok-first.first,
+      c.parse.new.self,
+      c.in_ok-first.ensures.takes,
+      inl c.in_err-second.ensures.takes,
+    )))
 
 pub returns-in_err-third-clause-takes : goal.returns-in_err-third-clause-takes
 returns-in_err-third-clause-takes g c =
     error_keeps _ c.args.input.now c.parse-3.new.self c.in_err-third.field-0.0
     c.from_residual-in_err-third.result (search rules)
-    (three_third g.A.Parse.takes g.B.Parse.takes g.C.Parse.takes c.args.input.now c.parse.new.self
-    c.parse-2.new.self c.parse-3.new.self c.in_ok-first.first c.in_ok-second.second
-    c.in_err-third.field-0.0 c.in_ok-first.ensures.takes c.in_ok-second.ensures.takes
-    c.in_err-third.ensures.takes)
+    (three_keep g.A.Parse.takes g.B.Parse.takes g.C.Parse.takes c.args.input.now
+    (Err c.in_err-third.field-0.0) c.parse-3.new.self (inr (
+      c.in_ok-first.first,
+      c.parse.new.self,
+      c.in_ok-first.ensures.takes,
+      inr (
+        c.in_ok-second.second,
+        c.parse-2.new.self,
+        c.in_ok-second.ensures.takes,
+        c.in_err-third.ensures.takes,
+      ),
+    )))
 
 pub returns-clause-takes : goal.returns-clause-takes
 returns-clause-takes g c =
-    three_found g.A.Parse.takes g.B.Parse.takes g.C.Parse.takes c.args.input.now c.parse.new.self
-    c.parse-2.new.self c.parse-3.new.self c.in_ok-first.first c.in_ok-second.second
-    c.in_ok-third.third c.in_ok-first.ensures.takes c.in_ok-second.ensures.takes
-    c.in_ok-third.ensures.takes
+    three_keep g.A.Parse.takes g.B.Parse.takes g.C.Parse.takes c.args.input.now
+    (Ok (c.in_ok-first.first, c.in_ok-second.second, c.in_ok-third.third)) c.parse-3.new.self (
+      c.parse.new.self,
+      c.in_ok-first.ensures.takes,
+      (c.parse-2.new.self, c.in_ok-second.ensures.takes, c.in_ok-third.ensures.takes),
+    )
 
 pub returns-in_err-first-clause-reads : goal.returns-in_err-first-clause-reads
 returns-in_err-first-clause-reads g c =

@@ -1,4 +1,4 @@
-use Rattle.syn_parse.proofs.Owned.{own_told}
+use Rattle.syn_parse.proofs.Told.{own_told}
 use Rattle.syn_parse.proofs.stream.ParseBuffer.parse_word.Goals as goal
 
 pub returns-clause-takes : goal.returns-clause-takes
