@@ -1,5 +1,5 @@
 -- The kinds of literals, by their texts, and how a literal of one kind is read and parsed.
-use Rattle.std.specs.Prelude.{◌≡◌, ℕ, Bool, false, not, ◌||◌, ◌&&◌, cond, is_some, codes}
+use Rattle.std.specs.Prelude.{◌≡◌, ℕ, Bool, false, not, ◌||◌, ◌&&◌, if◌then◌else◌, is_some, codes}
 use Rattle.std.specs.Prelude.{List, [], ◌∷◌, Option, Some, None}
 use Rattle.std.specs.Str.{chars}
 use Rattle.tok_lexical.specs.Ascii.{lower_r, quote}
@@ -34,9 +34,9 @@ is_float text = starts_digit text && not (is_integer text)
 abbrev pub is_bool : List ℕ → Bool
 is_bool text = is_some (bool_of text)
 
--- `true` or `false`
+-- the text of a truth value
 abbrev pub bool_text : Bool → List ℕ
-bool_text value = cond value (codes "true") (codes "false")
+bool_text value = if value then codes "true" else codes "false"
 
 -- a literal of which a test of its text is true
 abbrev pub is_literal_of : (List ℕ → Bool) → Tree → Bool

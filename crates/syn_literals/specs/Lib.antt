@@ -1,3 +1,4 @@
 pub mod Kinds
+pub mod Signed
 pub mod TakeLiterals
 pub mod TextValues

@@ -74,37 +74,43 @@ sees_float a = float_first a.trees
 abbrev pub sees_bool : Ahead → Bool
 sees_bool a = bool_first a.trees
 
--- less is ahead after each
+-- less is ahead after a string
 pub lowers_string : Lowers take_string
 unfolding take_string
 lowers_string = by-lowers _ _ _ (if-shorter _)
 
+-- less is ahead after an integer
 pub lowers_integer : Lowers take_integer
 unfolding take_integer
 lowers_integer = by-lowers _ _ _ (if-shorter _)
 
+-- less is ahead after a float
 pub lowers_float : Lowers take_float
 unfolding take_float
 lowers_float = by-lowers _ _ _ (if-shorter _)
 
+-- less is ahead after `true` or `false`
 pub lowers_bool : Lowers take_bool
 unfolding take_bool
 lowers_bool = by-lowers _ _ _ (if-shorter _)
 
--- no more is ahead after each
+-- no more is ahead after a string
 pub lightens_string : Lightens take_string
 lightens_string = lightens_lower take_string lowers_string
 
+-- no more is ahead after an integer
 pub lightens_integer : Lightens take_integer
 lightens_integer = lightens_lower take_integer lowers_integer
 
+-- no more is ahead after a float
 pub lightens_float : Lightens take_float
 lightens_float = lightens_lower take_float lowers_float
 
+-- no more is ahead after `true` or `false`
 pub lightens_bool : Lightens take_bool
 lightens_bool = lightens_lower take_bool lowers_bool
 
--- with these `search` proves it of what is built of tokens, groups and literals
+-- with these, `search` proves that what is built of tokens, groups and literals adds nothing
 pub ruleset literals_lighten = (
   lightening,
   lightens_string,
@@ -113,6 +119,7 @@ pub ruleset literals_lighten = (
   lightens_bool,
 )
 
+-- with these, `search` proves that what is built of tokens, groups and literals takes something
 pub ruleset literals_lower = (
   lowering,
   literals_lighten,

@@ -1,4 +1,4 @@
-//! `true` and `false`, which are identifiers among tokens.
+//! The literals `true` and `false`, which are identifiers in a token stream.
 ghost use Rattle.std.specs.Prelude.{◌≡◌, Some, codes};
 ghost use Rattle.tok_core.specs.Forest.{leaf, no_trees, tree};
 ghost use Rattle.tok_leaves.specs.Leaves.{ident};
@@ -19,7 +19,7 @@ use tok_core::{Span, ToTokens, TokenStream, TokenTree};
 use tok_types::token::Token;
 use tok_values::bool_value;
 
-/// `true` or `false`.
+/// A boolean literal, `true` or `false`.
 ///
 /// # Examples
 ///
@@ -33,7 +33,7 @@ pub struct LitBool {
 }
 
 impl LitBool {
-    /// Creates the literal of `value` at `span`.
+    /// Creates a boolean literal with the value `value` and the span `span`.
     pub fn new(value: bool, span: Span) -> Self
         ensures value { result.value ≡ value }
         ensures span { result.span ≡ span }
@@ -41,7 +41,7 @@ impl LitBool {
         LitBool { value, span }
     }
 
-    /// Returns the span.
+    /// Returns the span of the literal.
     pub fn span(&self) -> Span
         ensures { result ≡ self.now.span }
     {
@@ -101,7 +101,7 @@ fn boolean(input: ParseStream<'_, '_>) -> Result<LitBool>
     Ok(LitBool { value, span })
 }
 
-/// Writes the identifier `true` or `false`.
+/// Writes the literal as the identifier `true` or `false`.
 impl ToTokens for LitBool {
     ghost printed = { λ b. tree (leaf (ident (bool_text b.value) b.span)) no_trees };
 

@@ -1,5 +1,5 @@
-//! Float literals.
-ghost use Rattle.std.specs.Prelude.{◌≡◌, IfOk, Some, codes};
+//! Floating-point literals.
+ghost use Rattle.std.specs.Prelude.{◌≡◌, IfOk, Some, codes, SomeIff, true};
 ghost use Rattle.tok_core.specs.Forest.{leaf, no_trees, tree};
 ghost use Rattle.tok_leaves.specs.Leaves.{leaf_span, leaf_text, literal_of};
 ghost use Rattle.tok_types.specs.Looks.{PeeksFor, IsText};
@@ -20,10 +20,12 @@ use tok_core::{Literal, Span, ToTokens, TokenStream};
 use tok_types::token::Token;
 use tok_values::LiteralExt;
 
-/// A float literal, perhaps with a suffix: a number that is no integer. A minus sign is not part of
-/// it.
+/// A floating-point literal, such as `1.5`, with or without a suffix.
 ///
-/// Contracts see it as its literal.
+/// Every number literal that is not an integer literal is a floating-point literal. A minus sign is
+/// a separate token.
+///
+/// Contracts represent a `LitFloat` as its `Literal`.
 #[derive(Drop, Debug)]
 pub struct LitFloat {
     token: Literal,
@@ -62,23 +64,38 @@ impl Kind for LitFloat {
 }
 
 impl LitFloat {
-    /// Returns the literal.
+    /// Creates a `LitFloat` from a floating-point literal.
+    ///
+    /// The literal may have any suffix. If `literal` is not a floating-point literal, the call
+    /// drops `literal` and returns `None`.
+    pub fn from_literal(literal: Literal) -> Option<LitFloat>
+        ensures { SomeIff result (is_float (leaf_text (literal_of literal)) ≡ true) literal }
+    {
+        if LitFloat::accepts(&literal) {
+            Some(LitFloat { token: literal })
+        } else {
+            None
+        }
+    }
+
+    /// Returns a reference to the `Literal` in this `LitFloat`.
     pub fn token(&self) -> &Literal
         ensures { result.now ≡ self.now }
     {
         &self.token
     }
 
-    /// Returns the span.
+    /// Returns the span of the literal.
     pub fn span(&self) -> Span
         ensures { result ≡ leaf_span (literal_of self.now) }
     {
         self.token.span()
     }
 
-    /// Returns the nearest double, or `None` with a suffix other than `f32` and `f64`.
+    /// Returns the `f64` that is nearest to the literal's value.
     ///
-    /// Returns an error if an allocation fails.
+    /// Returns `None` if the literal has a suffix other than `f32` and `f64`, and an error if an
+    /// allocation fails.
     pub fn value(&self, alloc: Global) -> std::result::Result<Option<f64>, AllocError>
         ensures { IfOk result (λ value. value ≡ float_value (leaf_text (literal_of self.now))) }
     {
@@ -129,7 +146,7 @@ impl ToTokens for LitFloat {
     }
 }
 
-/// Copies the literal, with its span.
+/// Clones the literal and its span.
 impl Clone for LitFloat {
     ghost is_clone = { λ x y. y ≡ x };
 
@@ -140,7 +157,7 @@ impl Clone for LitFloat {
     }
 }
 
-/// Writes the literal's text.
+/// Writes the text of the literal.
 impl Display for LitFloat {
     ghost output = { λ x. Some (leaf_text (literal_of x)) };
 

@@ -1,5 +1,5 @@
 //! Integer literals.
-ghost use Rattle.std.specs.Prelude.{◌≡◌, Some, codes};
+ghost use Rattle.std.specs.Prelude.{◌≡◌, Some, codes, SomeIff, true};
 ghost use Rattle.tok_core.specs.Forest.{leaf, no_trees, tree};
 ghost use Rattle.std.specs.Str.{chars};
 ghost use Rattle.tok_leaves.specs.Leaves.{leaf_span, leaf_text, literal_of};
@@ -19,9 +19,11 @@ use tok_core::{Literal, Span, ToTokens, TokenStream};
 use tok_types::token::Token;
 use tok_values::{Integer, IntegerFault, LiteralExt};
 
-/// An integer literal, perhaps with a suffix. A minus sign is not part of it.
+/// An integer literal, such as `1` or `0xFFu8`, with or without a suffix.
 ///
-/// Contracts see it as its literal.
+/// A minus sign is a separate token.
+///
+/// Contracts represent a `LitInt` as its `Literal`.
 ///
 /// # Examples
 ///
@@ -70,23 +72,38 @@ impl Kind for LitInt {
 }
 
 impl LitInt {
-    /// Returns the literal.
+    /// Creates a `LitInt` from an integer literal.
+    ///
+    /// The literal may have any suffix. If `literal` is not an integer literal, the call drops
+    /// `literal` and returns `None`.
+    pub fn from_literal(literal: Literal) -> Option<LitInt>
+        ensures { SomeIff result (is_integer (leaf_text (literal_of literal)) ≡ true) literal }
+    {
+        if LitInt::accepts(&literal) {
+            Some(LitInt { token: literal })
+        } else {
+            None
+        }
+    }
+
+    /// Returns a reference to the `Literal` in this `LitInt`.
     pub fn token(&self) -> &Literal
         ensures { result.now ≡ self.now }
     {
         &self.token
     }
 
-    /// Returns the span.
+    /// Returns the span of the literal.
     pub fn span(&self) -> Span
         ensures { result ≡ leaf_span (literal_of self.now) }
     {
         self.token.span()
     }
 
-    /// Returns the value and the suffix, which is empty if there is none.
+    /// Returns the value and the suffix of the literal.
     ///
-    /// Returns `IntegerFault::TooLarge` if the value is above `u64::MAX`.
+    /// The suffix is empty if the literal has none. Returns `IntegerFault::TooLarge` if the value
+    /// is greater than `u64::MAX`.
     pub fn value(&self) -> std::result::Result<Integer<'_>, IntegerFault>
         ensures { HasValue (integer_value (chars (leaf_text (literal_of self.now)))) result }
     {
@@ -136,7 +153,7 @@ impl ToTokens for LitInt {
     }
 }
 
-/// Copies the literal, with its span.
+/// Clones the literal and its span.
 impl Clone for LitInt {
     ghost is_clone = { λ n m. m ≡ n };
 
@@ -147,7 +164,7 @@ impl Clone for LitInt {
     }
 }
 
-/// Writes the literal's text.
+/// Writes the text of the literal.
 impl Display for LitInt {
     ghost output = { λ n. Some (leaf_text (literal_of n)) };
 

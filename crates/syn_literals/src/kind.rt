@@ -1,4 +1,4 @@
-//! A kind of literal, and how one is found and parsed.
+//! The trait of the kinds of literals, and functions that peek at or parse a literal of one kind.
 ghost use Rattle.std.specs.Prelude.{◌≡◌, ℕ, Bool, List};
 ghost use Rattle.tok_leaves.specs.Leaves.{leaf_text, literal_of};
 ghost use Rattle.tok_buffer.specs.Cursors.{place_of};
@@ -9,7 +9,7 @@ use syn_parse::{ParseStream, Result};
 use tok_buffer::Cursor;
 use tok_core::Literal;
 
-/// A kind of literal.
+/// A kind of literal that a parser can expect, such as the integer literals.
 pub(crate) trait Kind {
     // Whether a literal of this text is of the kind.
     ghost accepts: { List ℕ → Bool };
@@ -21,12 +21,12 @@ pub(crate) trait Kind {
     fn accepts(literal: &Literal) -> bool
         ensures { result ≡ accepts (leaf_text (literal_of literal.now)) };
 
-    /// Returns the text of the error if none is next.
+    /// Returns the error message for a token that is not a literal of this kind.
     fn words() -> &'static str
         ensures { result.now ≡ words };
 }
 
-/// Returns `true` if a literal of this kind is next.
+/// Returns `true` if a literal of the kind `K` is next.
 pub(crate) fn peek_kind<K: Kind>(cursor: Cursor<'_>) -> bool
     ensures { PeeksFor (read_literal_of K.accepts) (place_of cursor.entry) result }
 {
@@ -36,7 +36,7 @@ pub(crate) fn peek_kind<K: Kind>(cursor: Cursor<'_>) -> bool
     }
 }
 
-/// Parses a literal of this kind.
+/// Parses a literal of the kind `K`.
 pub(crate) fn parse_kind<K: Kind>(input: ParseStream<'_, '_>) -> Result<Literal>
     ensures { KindParses K.accepts K.words input.old result input.new }
 {

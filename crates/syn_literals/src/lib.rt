@@ -1,7 +1,8 @@
-//! Literals of one kind each, as types: strings, integers, floats and truth values.
+//! Types for string, integer, floating-point and boolean literals.
 //!
-//! Each can be parsed, looked for and written, and has its value. A literal of another kind is an
-//! error, which names the kind.
+//! Values of each type can be parsed, peeked at and written as tokens. Each type also gives access
+//! to the value of its literal. If another kind of literal is next, the parser returns an error
+//! that names the expected kind.
 #![tactic(auto)]
 
 mod boolean;
@@ -10,9 +11,11 @@ mod integer;
 mod kind;
 pub mod laws;
 mod raw;
+mod signed;
 mod string;
 
 pub use boolean::LitBool;
 pub use float::LitFloat;
 pub use integer::LitInt;
+pub use signed::{SignedFloat, SignedInt, signed_float_value, signed_int_value};
 pub use string::LitStr;

@@ -3,7 +3,8 @@ ghost use Rattle.std.specs.Prelude.{◌≡◌, ℕ, List, ◌∷◌, MatchBool, 
 ghost use Rattle.tok_lexical.specs.Ascii.{lower_r, quote};
 ghost use Rattle.syn_literals.specs.TextValues.{raw_value};
 
-/// Returns the text that a raw string without a suffix holds, or `None` for another literal.
+/// Returns the text between the quotes of a raw string without a suffix, or `None` for any other
+/// literal.
 pub(crate) fn raw_text(text: &str) -> Option<&str>
     ensures { option_map (λ r. r.now) result ≡ raw_value text.now }
 {

@@ -1,5 +1,5 @@
 //! String literals.
-ghost use Rattle.std.specs.Prelude.{◌≡◌, IfOk, Some, codes, option_map, string_bytes};
+ghost use Rattle.std.specs.Prelude.{◌≡◌, IfOk, Some, codes, option_map, string_bytes, SomeIff, true};
 ghost use Rattle.tok_core.specs.Forest.{leaf, no_trees, tree};
 ghost use Rattle.tok_leaves.specs.Leaves.{leaf_span, leaf_text, literal_of};
 ghost use Rattle.tok_types.specs.Looks.{PeeksFor, IsText};
@@ -19,9 +19,11 @@ use tok_core::{Literal, Span, ToTokens, TokenStream};
 use tok_types::token::Token;
 use tok_values::LiteralExt;
 
-/// A string literal, raw or not. Byte strings and C strings are other literals.
+/// A string literal, such as `"text"` or `r"text"`.
 ///
-/// Contracts see it as its literal.
+/// A byte string or a C string is not a `LitStr`.
+///
+/// Contracts represent a `LitStr` as its `Literal`.
 ///
 /// # Examples
 ///
@@ -57,23 +59,38 @@ impl Kind for LitStr {
 }
 
 impl LitStr {
-    /// Returns the literal.
+    /// Creates a `LitStr` from a string literal, which may be raw.
+    ///
+    /// The literal may have any suffix. If `literal` is not a string literal, the call drops
+    /// `literal` and returns `None`.
+    pub fn from_literal(literal: Literal) -> Option<LitStr>
+        ensures { SomeIff result (is_string (leaf_text (literal_of literal)) ≡ true) literal }
+    {
+        if LitStr::accepts(&literal) {
+            Some(LitStr { token: literal })
+        } else {
+            None
+        }
+    }
+
+    /// Returns a reference to the `Literal` in this `LitStr`.
     pub fn token(&self) -> &Literal
         ensures { result.now ≡ self.now }
     {
         &self.token
     }
 
-    /// Returns the span.
+    /// Returns the span of the literal.
     pub fn span(&self) -> Span
         ensures { result ≡ leaf_span (literal_of self.now) }
     {
         self.token.span()
     }
 
-    /// Returns the text that the literal means, or `None` if it has a suffix.
+    /// Returns the value of the literal, or `None` if the literal has a suffix.
     ///
-    /// A raw string means what is between its quotes. Returns an error if an allocation fails.
+    /// The value of a raw string is the text between its quotes. Returns an error if an allocation
+    /// fails.
     pub fn value(&self, alloc: Global) -> std::result::Result<Option<String>, AllocError>
         ensures { IfOk result (λ answer. option_map string_bytes answer
             ≡ text_value (leaf_text (literal_of self.now))) }
@@ -127,7 +144,7 @@ impl ToTokens for LitStr {
     }
 }
 
-/// Copies the literal, with its span.
+/// Clones the literal and its span.
 impl Clone for LitStr {
     ghost is_clone = { λ s t. t ≡ s };
 
@@ -138,7 +155,7 @@ impl Clone for LitStr {
     }
 }
 
-/// Writes the literal's text.
+/// Writes the text of the literal.
 impl Display for LitStr {
     ghost output = { λ s. Some (leaf_text (literal_of s)) };
 
