@@ -17,14 +17,15 @@ use Rattle.tok_types.specs.Sees.{group_first, keyword_first, punctuation_first}
 use Rattle.tok_types.specs.Texts.{accept_as_ident, keyword_text, punctuation_word}
 use Rattle.tok_types.specs.declared.keyword.Keyword.{Keyword}
 use Rattle.tok_types.specs.declared.punctuation.Punctuation.{Punctuation}
-use Rattle.syn_parse.proofs.Shapes.{IsAccepted, IsPunctuation, Shape, Spells, any_ident_shape}
-use Rattle.syn_parse.proofs.Shapes.{found_first, found_second, ident_shape, keyword_shape}
-use Rattle.syn_parse.proofs.Shapes.{punctuation_shape}
+use Rattle.syn_parse.proofs.Shapes.{IsAccepted, IsPunctuation, Shape, Spells, token_shape}
+use Rattle.syn_parse.proofs.Shapes.{found_first, found_second}
 use Rattle.syn_parse.specs.Parses.{IsIdent, IsSpanOf}
 use Rattle.syn_parse.specs.Positions.{Missing}
 use Rattle.syn_parse.specs.Takes.{Taking, found, inside_first, read_as, take_by, take_group}
-use Rattle.syn_parse.specs.Tokens.{sees_group, sees_keyword, sees_punctuation, take_any_ident}
-use Rattle.syn_parse.specs.Tokens.{take_ident, take_keyword, take_punctuation}
+use Rattle.syn_parse.specs.Tokens.{sees_group, take_any_ident}
+use Rattle.syn_parse.specs.Tokens.{take_ident, take_token}
+use Rattle.syn_parse.specs.TokenNames.{Name, sees, take}
+use Rattle.syn_parse.specs.Tokens as token
 use Rattle.syn_parse.specs.TreesAhead.{Ahead, only_trees}
 use Rattle.syn_parse.specs.TreeTakes.{take_rest}
 use Rattle.syn_punctuated.specs.Parts.{ArePuncts, IsAnyIdent, IsGroup, IsIdentifier, IsRest, IsSign}
@@ -54,7 +55,7 @@ module _ {A : Type 0} {Is : A → List Tree → Type 0} {take : Taking A} {P : P
         ap (λ x. take (only_trees x)) t.2 ∙ s.takes (only_trees g) v t.0 t.1
 
 pub identifier_exactly : Exactly IsIdentifier take_ident
-identifier_exactly = by_shape ident_shape to from where
+identifier_exactly = by_shape (token_shape token.ident tt) to from where
   to : (v : Ident) (ts : List Tree) (g : Forest) → IsAccepted accept_as_ident v ts
       → IsIdentifier (concat (forest ts) g) v g
   to v ts g i =
@@ -65,7 +66,7 @@ identifier_exactly = by_shape ident_shape to from where
   from f g v (identifier {text} {span} a) = (leaf (ident text span) ∷ [], (refl, a), refl)
 
 pub any_ident_exactly : Exactly IsAnyIdent take_any_ident
-any_ident_exactly = by_shape any_ident_shape to from where
+any_ident_exactly = by_shape (token_shape token.any_ident tt) to from where
   to : (v : Ident) (ts : List Tree) (g : Forest) → IsIdent v ts
       → IsAnyIdent (concat (forest ts) g) v g
   to v ts g i = subst (λ us. IsAnyIdent (concat (forest us) g) v g) (sym i) any_ident
@@ -74,9 +75,9 @@ any_ident_exactly = by_shape any_ident_shape to from where
       → (ts : List Tree) × IsIdent v ts × (f ≡ concat (forest ts) g)
   from f g v (any_ident {text} {span}) = (leaf (ident text span) ∷ [], refl, refl)
 
-pub word_exactly : (k c : ℕ) (cs : List ℕ) → keyword_text k ≡ c ∷ cs
-    → Exactly (IsWord (keyword_text k)) (take_keyword k)
-word_exactly k c cs e = by_shape (keyword_shape k c cs e) to from where
+pub word_exactly : {k : ℕ} (name : Name (Keyword k) (token.keyword k)) (c : ℕ) (cs : List ℕ)
+    → keyword_text k ≡ c ∷ cs → Exactly (IsWord (keyword_text k)) (take name)
+word_exactly {k} name c cs e = by_shape (token_shape (token.keyword k) (c, cs, e)) to from where
   to : (v : Keyword k) (ts : List Tree) (g : Forest) → IsSpanOf (keyword_text k) v.span ts
       → IsWord (keyword_text k) (concat (forest ts) g) v g
   to v ts g i = subst (λ us. IsWord (keyword_text k) (concat (forest us) g) v g) (sym i) word
@@ -143,9 +144,9 @@ spells (joint {c} {d} {cs} {span} {spans} {f} {g} r) own =
       ap (tree t) more.3,
     )
 
-pub sign_exactly : (k n : ℕ) → are_own (punctuation_word k n) ≡ true
-    → Exactly (IsSign (punctuation_word k n)) (take_punctuation k n)
-sign_exactly k n own = by_shape (punctuation_shape k n) to from where
+pub sign_exactly : {k n : ℕ} (name : Name (Punctuation k n) (token.punctuation k n))
+    → are_own (punctuation_word k n) ≡ true → Exactly (IsSign (punctuation_word k n)) (take name)
+sign_exactly {k} {n} name own = by_shape (token_shape (token.punctuation k n) tt) to from where
   to : (v : Punctuation k n) (ts : List Tree) (g : Forest) → IsPunctuation k n v ts
       → IsSign (punctuation_word k n) (concat (forest ts) g) v g
   to v ts g i =
@@ -195,15 +196,16 @@ module _ {A : Type 0} {P : Part A} (read : Forest → Option (List Tree × Fores
     go : {f g : Forest} {v : A} → P f v g → is_some (read f) ≡ true
     go {f} {g} {v} p = read_seen f g v (read f) (takes h p)
 
-pub word_tells : (k c : ℕ) (cs : List ℕ) → keyword_text k ≡ c ∷ cs
-    → Tells (IsWord {k = k} (keyword_text k)) (sees_keyword k)
-unfolding take_keyword keyword_first
-word_tells k c cs e = tells_read _ _ _ (word_exactly k c cs e)
+pub word_tells : {k : ℕ} (name : Name (Keyword k) (token.keyword k)) (c : ℕ) (cs : List ℕ)
+    → keyword_text k ≡ c ∷ cs → Tells (IsWord {k = k} (keyword_text k)) (sees name)
+unfolding take_token keyword_first
+word_tells name c cs e = tells_read _ _ _ (word_exactly name c cs e)
 
-pub sign_tells : (k n : ℕ) → are_own (punctuation_word k n) ≡ true
-    → Tells (IsSign {k = k} {n = n} (punctuation_word k n)) (sees_punctuation k n)
-unfolding take_punctuation punctuation_first
-sign_tells k n own = tells_read _ _ _ (sign_exactly k n own)
+pub sign_tells : {k n : ℕ} (name : Name (Punctuation k n) (token.punctuation k n))
+    → are_own (punctuation_word k n) ≡ true
+    → Tells (IsSign {k = k} {n = n} (punctuation_word k n)) (sees name)
+unfolding take_token punctuation_first
+sign_tells name own = tells_read _ _ _ (sign_exactly name own)
 
 -- a peek at a group tells whether there is one
 pub group_tells : (d : Delimiter) → Tells (IsGroup d) (sees_group d)

@@ -4,13 +4,19 @@ use Rattle.std.proofs.Common.{◌≡◌, ◌∙◌, sym, ap, subst, refl, arith,
 use Rattle.std.proofs.Common.{false, cond}
 use Rattle.std.proofs.Common.{List, [], ◌∷◌}
 use Rattle.std.proofs.lemmas.Bool.{false≢true}
-use Rattle.tok_core.specs.Forest.{Tree, Forest, no_trees, tree, forest, concat}
+use Rattle.tok_leaves.specs.declared.punct.Spacing.{Spacing}
+use Rattle.tok_leaves.specs.declared.span.Span.{Span}
+use Rattle.tok_leaves.specs.Leaves.{punct}
+use Rattle.tok_core.specs.Forest.{Tree, leaf, Forest, no_trees, tree, forest, concat}
 use Rattle.tok_core.specs.Weight.{weight}
-use Rattle.syn_parse.proofs.Shapes.{found_first, found_second}
-use Rattle.syn_parse.proofs.TakenTrees.{IsTaken}
-use Rattle.syn_parse.specs.TreesAhead.{Ahead, all_taken}
+use Rattle.tok_types.specs.declared.punctuation.Punctuation.{Punctuation}
+use Rattle.syn_parse.proofs.Shapes.{IsSign, Shape, before, found_first, found_second, sign_ahead}
+use Rattle.syn_parse.proofs.TakenTrees.{Sound, SoundToEnd}
+use Rattle.syn_parse.specs.Lighter.{lightens_lower, lowers_token}
+use Rattle.syn_parse.specs.TreesAhead.{Ahead, all_taken, only_trees}
 use Rattle.syn_parse.specs.Takes.{Outcome, Taking, and_then, found, missing}
 use Rattle.syn_parse.specs.Takings.{Lightens, Lowers}
+use Rattle.syn_parse.specs.Tokens.{punctuation, take_token}
 use Rattle.syn_punctuated.specs.TakeLists.{is_left, take_list, take_terminated, take_turns}
 
 module _ {A P : Type 0} (begins goes_on : Ahead → Bool) (value : Taking A) (sign : Taking P) where
@@ -128,42 +134,92 @@ pub none_after : (f : Forest) → concat f no_trees ≡ f
 none_after no_trees = refl
 none_after (tree t f) = ap (tree t) (none_after f)
 
--- A list that is taken to the end is one of a grammar, which has three clauses: no value, a last
--- value, and a value with a separator and more.
-module _ {A P : Type 0} (Is : A → List Tree → Type 0) (IsSign : P → List Tree → Type 0)
-    (Are : Forest → List A → List P → Type 0) (value : Taking A) (sign : Taking P)
-    (h : IsTaken Is value) (k : IsTaken IsSign sign) (none : Are no_trees [] [])
+-- Lists to the end, with signs of one character, by a grammar of three clauses: no value; a last
+-- value; a value, a sign and more. What is taken is such a list.
+module _ {A : Type 0} {k c : ℕ} {Is : A → List Tree → Type 0}
+    {Are : Forest → List A → List (Punctuation k 1) → Type 0} {value : Taking A}
+    {sign : Taking (Punctuation k 1)} (h : Sound value Is) (s : Sound sign (IsSign c))
+    (none : Are no_trees [] [])
     (last : (ts : List Tree) (v : A) → Is v ts → Are (forest ts) (v ∷ []) [])
-    (more : (ts us : List Tree) (f : Forest) (v : A) (p : P) (vs : List A) (ps : List P)
-    → Is v ts → IsSign p us → Are f vs ps
-    → Are (concat (forest ts) (concat (forest us) f)) (v ∷ vs) (p ∷ ps)) where
-  turns_are : (a d : Ahead) (vs : List A) (ps : List P) → Turns is_left is_left value sign a vs ps d
+    (more : (ts : List Tree) (v : A) (spacing : Spacing) (span : Span) (f : Forest) (vs : List A)
+    (ps : List (Punctuation k 1)) → Is v ts → Are f vs ps
+    → Are (concat (forest ts) (tree (leaf (punct c spacing span)) f)) (v ∷ vs)
+    (record { spans = span ∷ [] } ∷ ps)) where
+  turns_are : (a d : Ahead) (vs : List A) (ps : List (Punctuation k 1))
+      → Turns is_left is_left value sign a vs ps d
       → Are a.trees vs ps × (d.trees ≡ no_trees) × (d.unread ≡ a.unread)
   turns_are _ _ _ _ (done a e) =
       (subst (λ f. Are f [] []) (sym (no_trees_left a e)) none, no_trees_left a e, refl)
   turns_are _ _ _ _ (bare a b v e i g) =
-      let t = h a b v i in (
+      let t = h.taken a b v i in (
         subst (λ f. Are f (v ∷ []) []) (sym (ap (λ (x : Ahead). x.trees) t.2
             ∙ ap (concat (forest t.0)) (no_trees_left b g) ∙ none_after (forest t.0)))
             (last t.0 v t.1),
         no_trees_left b g,
         sym (ap (λ (x : Ahead). x.unread) t.2),
       )
-  turns_are _ _ _ _ (turn a b c d v p vs ps e i g s rest) =
-      let t = h a b v i in
-      let u = k b c p s in
-      let m = turns_are c d vs ps rest in (
-        subst (λ f. Are f (v ∷ vs) (p ∷ ps)) (sym (ap (λ (x : Ahead). x.trees) t.2
-            ∙ ap (λ (x : Ahead). concat (forest t.0) x.trees) u.2))
-            (more t.0 u.0 c.trees v p vs ps t.1 u.1 m.0),
+  turns_are _ _ _ _ (turn a b n d v p vs ps e i g q rest) =
+      let t = h.taken a b v i in
+      let u = s.taken b n p q in
+      let m = turns_are n d vs ps rest in
+      let all = t.2 ∙ ap (before t.0) (u.2 ∙ ap (λ ts. before ts n) u.1.2) in (
+        subst (λ x. Are a.trees (v ∷ vs) (x ∷ ps)) (sym u.1.3)
+            (subst (λ f. Are f (v ∷ vs) (record { spans = u.1.1 ∷ [] } ∷ ps))
+            (sym (ap (λ (x : Ahead). x.trees) all))
+            (more t.0 v u.1.0 u.1.1 n.trees vs ps t.1 m.0)),
         m.1,
-        m.2 ∙ sym (ap (λ (x : Ahead). x.unread) u.2) ∙ sym (ap (λ (x : Ahead). x.unread) t.2),
+        m.2 ∙ sym (ap (λ (x : Ahead). x.unread) all),
       )
 
-  pub list_is : (f : Forest) (d : Ahead) (x : List A × List P)
-      → take_terminated value sign (record { trees = f; unread = None }) ≡ found x d
-      → (d ≡ all_taken) × Are f x.0 x.1
-  list_is f d x e =
-      let a : Ahead = record { trees = f; unread = None } in
-      let t = turns_are a d x.0 x.1 (list_taken is_left is_left value sign a d x e) in
-      (nothing_left d t.1 t.2, t.0)
+  pub list_sound : SoundToEnd (take_terminated value sign) (λ x f. Are f x.0 x.1)
+  list_sound = record {
+    taken = λ f d x e.
+        let a : Ahead = only_trees f in
+        let t = turns_are a d x.0 x.1 (list_taken is_left is_left value sign a d x e) in
+        (nothing_left d t.1 t.2, t.0);
+  }
+
+-- And such a list is taken, if its values are, and each of them takes something.
+module _ {A : Type 0} {k c : ℕ} {value : Taking A} (low : Lowers value)
+    (s : Shape (IsSign c) (take_token (punctuation k 1))) where
+  abbrev sign : Taking (Punctuation k 1)
+  sign = take_token (punctuation k 1)
+
+  abbrev pub AllTaken : Forest → List A → List (Punctuation k 1) → Type 0
+  AllTaken f vs ps = take_terminated value sign (only_trees f) ≡ found (vs, ps) all_taken
+
+  by_turns : (a : Ahead) (vs : List A) (ps : List (Punctuation k 1))
+      → Turns is_left is_left value sign a vs ps all_taken
+      → take_terminated value sign a ≡ found (vs, ps) all_taken
+  by_turns a vs ps t =
+      takes_list is_left is_left value sign (lightens_lower value low)
+      (lowers_token (punctuation k 1)) a all_taken vs ps t
+
+  begins : (a b : Ahead) (v : A) → value a ≡ found v b → is_left a ≡ true
+  begins a b v e = go a.trees (low.less a b v e) where
+    go : (f : Forest) → weight b.trees < weight f → is_left (only_trees f) ≡ true
+    go no_trees w = absurd (omega (arith, w))
+    go (tree t f) w = refl
+
+  pub none_taken : AllTaken no_trees [] []
+  none_taken = by_turns all_taken [] [] (done all_taken refl)
+
+  pub last_taken : (ts : List Tree) {v : A} → value (before ts all_taken) ≡ found v all_taken
+      → AllTaken (forest ts) (v ∷ []) []
+  last_taken ts {v} e =
+      subst (λ f. AllTaken f (v ∷ []) []) (none_after (forest ts))
+      (by_turns (before ts all_taken) (v ∷ []) []
+      (bare (before ts all_taken) all_taken v (begins _ _ v e) e refl))
+
+  pub more_taken : (ts : List Tree) {v : A} {spacing : Spacing} {span : Span} {f : Forest}
+      {vs : List A} {ps : List (Punctuation k 1)}
+      → value (before ts (only_trees (tree (leaf (punct c spacing span)) f)))
+      ≡ found v (only_trees (tree (leaf (punct c spacing span)) f)) → AllTaken f vs ps
+      → AllTaken (concat (forest ts) (tree (leaf (punct c spacing span)) f)) (v ∷ vs)
+      (record { spans = span ∷ [] } ∷ ps)
+  more_taken ts {v} {spacing} {span} {f} {vs} {ps} e l =
+      let b = only_trees (tree (leaf (punct c spacing span)) f) in
+      by_turns (before ts b) (v ∷ vs) (record { spans = span ∷ [] } ∷ ps)
+      (turn (before ts b) b (only_trees f) all_taken v (record { spans = span ∷ [] }) vs ps
+      (begins _ _ v e) e refl (sign_ahead s spacing span)
+      (list_taken is_left is_left value sign (only_trees f) all_taken (vs, ps) l))

@@ -8,15 +8,17 @@ use Rattle.tok_types.specs.Looks.{PeeksFor}
 use Rattle.tok_types.specs.Sees.{Sees, punctuation_first}
 use Rattle.tok_types.specs.Texts.{punctuation_word}
 use Rattle.tok_types.specs.declared.punctuation.Punctuation.{Punctuation}
+use Rattle.syn_parse.proofs.Premises.{given, premise}
 use Rattle.syn_parse.proofs.Told.{end_told}
-use Rattle.syn_parse.specs.Lighter.{lightens_lower, lowers_punctuation}
+use Rattle.syn_parse.specs.Lighter.{lightens, lowers_token}
 use Rattle.syn_parse.specs.Progress.{ParsesGoOn, ParsesOn, PunctuationTypeParses}
 use Rattle.syn_parse.specs.Reads.{Call}
 use Rattle.syn_parse.specs.State.{State}
 use Rattle.syn_parse.specs.Takes.{TakesAs, Taking}
 use Rattle.syn_parse.specs.Takings as states
-use Rattle.syn_parse.specs.Takings.{Lightens, Lowers, Takings, lighter, lower, told, told_filled}
-use Rattle.syn_parse.specs.Tokens.{take_punctuation}
+use Rattle.syn_parse.specs.Takings.{Lightens, Lowers, Takings, lower, stated, told, weighs}
+use Rattle.syn_parse.specs.Tokens.{take_token}
+use Rattle.syn_parse.specs.Tokens as token
 use Rattle.syn_parse.specs.TreesAhead.{IsFilled, ahead}
 use Rattle.syn_parse.specs.declared.fault.Fault.{Fault}
 use Rattle.syn_punctuated.proofs.TakenRuns.{Tells, run_takes}
@@ -91,17 +93,10 @@ module _ {T P F : Type 0} (reads : ValueCall F T) (parses : Call P) (go : Parses
       → (f : F) (s t : State) (r : Result (Punctuated T P) Fault)
       → IsRun terminated reads (Separates parses signs) f s r t
       → states.Keeps (terminated_list values signs) s r t
-  terminated_keeps (told form value (lighter h)) (told shape sign (lower k)) each f s t r run =
-      λ i. by-end shape sign k form value h (λ x y a b q j w. each x y a b q w) f s t r i run
-  terminated_keeps (told form value (lower h)) (told shape sign (lower k)) each f s t r run =
-      λ i. by-end shape sign k form value (lightens_lower value h)
-      (λ x y a b q j w. each x y a b q w) f s t r i run
-  terminated_keeps (told_filled form value (lighter h)) (told shape sign (lower k)) each f s t r
+  terminated_keeps (stated alone form value (weighs x h)) (told shape sign (lower k)) each f s t r
       run =
-      λ i. by-end shape sign k form value h (λ x y a b q j w. each x y a b q w j) f s t r i run
-  terminated_keeps (told_filled form value (lower h)) (told shape sign (lower k)) each f s t r run =
-      λ i. by-end shape sign k form value (lightens_lower value h)
-      (λ x y a b q j w. each x y a b q w j) f s t r i run
+      λ i. by-end shape sign k form value (lightens x value h)
+      (λ y z a b q j w. given alone _ _ (each y z a b q w) (premise alone _ j)) f s t r i run
   terminated_keeps values signs each f s t r run = tt
 
   pub separated_keeps : (peeks : Place → Bool → Type 0) (sees : Option (Forest → Bool))
@@ -111,18 +106,14 @@ module _ {T P F : Type 0} (reads : ValueCall F T) (parses : Call P) (go : Parses
       → IsRun (separated (λ p found. peeks p found × Sees sees p found)) reads
       (Separates parses signs) f s r t
       → states.Keeps (separated_list sees values signs) s r t
-  separated_keeps peeks (Some sees) (told form value (lighter h)) (told shape sign (lower k)) each f
-      s t r
-      run =
-      by-sign shape sign k form value h peeks sees each f s t r run
-  separated_keeps peeks (Some sees) (told form value (lower h)) (told shape sign (lower k)) each f s
-      t r run =
-      by-sign shape sign k form value (lightens_lower value h) peeks sees each f s t r run
+  separated_keeps peeks (Some sees) (told form value (weighs x h)) (told shape sign (lower k)) each
+      f s t r run =
+      by-sign shape sign k form value (lightens x value h) peeks sees each f s t r run
   separated_keeps peeks sees values signs each f s t r run = tt
 
 -- what punctuations state
 abbrev pub signs : (k n : ℕ) → Takings (Punctuation k n)
-signs k n = told (λ p. p) (take_punctuation k n) (lower (lowers_punctuation k n))
+signs k n = told (λ p. p) (take_token (token.punctuation k n)) (lower (lowers_token _))
 
 -- values with a punctuation between them, to the end
 pub punctuated_keeps : {T F : Type 0} {k n : ℕ} (values : Takings T) {reads : ValueCall F T} {f : F}

@@ -18,6 +18,6 @@ module _ {X Y : Type 0} where
   abbrev pub lent_by_values : IterMut X Y → List (Pair X Y)
   lent_by_values it = lent_pairs it.pairs
 
-  -- these values
+  -- the values that an `IterMut` has left
   abbrev pub lent_values : IterMut X Y → List X
   lent_values it = map value_of_pair (lent_pairs it.pairs)

@@ -5,7 +5,7 @@ use Rattle.tok_buffer.specs.Order.{order, same_scope}
 use Rattle.tok_buffer.specs.Place.{Place, count_before}
 use Rattle.tok_buffer.specs.Progress.{remaining}
 
--- later in the same scope, or at the empty place and not there before
+-- `to` is later in the scope of `from`, or `to` is the empty place and `from` is not
 abbrev pub progresses : (from to : Place) → Bool
 progresses from to =
     (same_scope from to && partial_lt order from to)

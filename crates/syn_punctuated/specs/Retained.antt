@@ -1,7 +1,7 @@
 -- What `retain` asks of its predicate, and what it leaves of a list.
 use denote.Param.Members.{Mut}
 use denote.Ref.{MutBor}
-use Rattle.std.specs.Prelude.{◌≡◌, ◌+◌, ◌-◌, Bool, cond, List, [], ◌∷◌, ◌++◌, length, map, take}
+use Rattle.std.specs.Prelude.{◌≡◌, ◌+◌, ◌-◌, Bool, if◌then◌else◌, List, [], ◌∷◌, ◌++◌, length, map, take}
 use Rattle.syn_punctuated.specs.declared.punctuated.Punctuated.{Punctuated}
 use Rattle.syn_punctuated.specs.Lists.{values_of, separators_of}
 
@@ -27,20 +27,21 @@ TakesAtMut {S} {X} calls f x = (lent : MutBor X) → lent.now ≡ x → calls.pr
 -- the values at which the run returned true, as it left them
 abbrev pub kept_values : {X : Type 0} → List (Bool × X) → List X
 kept_values [] = []
-kept_values (z ∷ zs) = cond z.0 (z.1 ∷ kept_values zs) (kept_values zs)
+kept_values (z ∷ zs) = if z.0 then z.1 ∷ kept_values zs else kept_values zs
 
 module _ {X Y : Type 0} where
-  -- the separators after those values
+  -- the separators after the values at which the run returned true
   abbrev pub kept_separators : List (Bool × X) → List Y → List Y
   kept_separators [] ys = []
   kept_separators (z ∷ zs) [] = []
-  kept_separators (z ∷ zs) (y ∷ ys) = cond z.0 (y ∷ kept_separators zs ys) (kept_separators zs ys)
+  kept_separators (z ∷ zs) (y ∷ ys) =
+      if z.0 then y ∷ kept_separators zs ys else kept_separators zs ys
 
-  -- both, as pairs
+  -- the pairs of those values, as the run left them, and the separators after them
   abbrev pub kept_pairs : List (Bool × X) → List (X × Y) → List (X × Y)
   kept_pairs [] ps = []
   kept_pairs (z ∷ zs) [] = []
-  kept_pairs (z ∷ zs) (p ∷ ps) = cond z.0 ((z.1, p.1) ∷ kept_pairs zs ps) (kept_pairs zs ps)
+  kept_pairs (z ∷ zs) (p ∷ ps) = if z.0 then (z.1, p.1) ∷ kept_pairs zs ps else kept_pairs zs ps
 
 module _ {S X Y : Type 0} (R : S → X → Bool → S → X → Type 0) where
   -- new is what a run from s to t kept of the pairs old

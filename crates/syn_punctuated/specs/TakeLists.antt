@@ -8,8 +8,8 @@ use Rattle.syn_parse.specs.TreesAhead.{Ahead, is_spent}
 use Rattle.syn_parse.specs.State.{State}
 use Rattle.syn_parse.specs.declared.fault.Fault.{Fault}
 use Rattle.syn_parse.specs.Takes.{Takes, Taking, ◌>>=◌, gives, refuses, where_ahead}
-use Rattle.syn_parse.specs.Takings.{Keeps, Takings, lighter, lower, told, told_filled, unweighed}
-use Rattle.syn_parse.specs.Takings.{untold}
+use Rattle.syn_parse.specs.Takings.{Keeps, Takings, lower, stated, told, told_filled, untold}
+use Rattle.syn_parse.specs.Takings.{unweighed, weighs}
 use Rattle.syn_punctuated.specs.Lists.{values_of, separators_of}
 use Rattle.syn_punctuated.specs.Turns.{ValueCall}
 use Rattle.syn_punctuated.specs.declared.punctuated.Punctuated.{Punctuated}
@@ -27,7 +27,7 @@ take_turns (suc n) begins goes_on value sign =
         rest ← take_turns n begins goes_on value sign
         gives (v ∷ rest.0, p ∷ rest.1)) (gives (v ∷ [], []))) (gives ([], []))
 
--- as many turns as there are
+-- values and separators in turn, as many as there are
 unfoldable pub take_list : {A P : Type 0} → (begins goes_on : Ahead → Bool) → Taking A → Taking P
     → Taking (List A × List P)
 take_list begins goes_on value sign a =
@@ -41,7 +41,7 @@ is_left a = not (is_spent a)
 abbrev pub always : Ahead → Bool
 always a = true
 
--- up to the end: a separator after each value, which the last one may lack
+-- values up to the end, with a separator after each, which the last one may lack
 abbrev pub take_terminated : {A P : Type 0} → Taking A → Taking P → Taking (List A × List P)
 take_terminated value sign = take_list is_left is_left value sign
 
@@ -66,21 +66,13 @@ EachTakes {T} {F} value reads =
 -- a list of values that take no more than is ahead, and separators that each take something; an
 -- empty invisible group is not the end
 abbrev pub terminated_list : {T P : Type 0} → Takings T → Takings P → Takings (Punctuated T P)
-terminated_list (told form value (lighter h)) (told shape sign (lower k)) =
-    told_filled (list_form form shape) (take_terminated value sign) unweighed
-terminated_list (told form value (lower h)) (told shape sign (lower k)) =
-    told_filled (list_form form shape) (take_terminated value sign) unweighed
-terminated_list (told_filled form value (lighter h)) (told shape sign (lower k)) =
-    told_filled (list_form form shape) (take_terminated value sign) unweighed
-terminated_list (told_filled form value (lower h)) (told shape sign (lower k)) =
+terminated_list (stated alone form value (weighs x h)) (told shape sign (lower k)) =
     told_filled (list_form form shape) (take_terminated value sign) unweighed
 terminated_list values signs = untold
 
 -- what a separated list takes, which ends if no separator is next
 abbrev pub separated_list : {T P : Type 0} → Option (Forest → Bool) → Takings T → Takings P
     → Takings (Punctuated T P)
-separated_list (Some sees) (told form value (lighter h)) (told shape sign (lower k)) =
-    told (list_form form shape) (take_separated (λ a. sees a.trees) value sign) unweighed
-separated_list (Some sees) (told form value (lower h)) (told shape sign (lower k)) =
+separated_list (Some sees) (told form value (weighs x h)) (told shape sign (lower k)) =
     told (list_form form shape) (take_separated (λ a. sees a.trees) value sign) unweighed
 separated_list sees values signs = untold

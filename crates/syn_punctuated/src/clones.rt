@@ -1,5 +1,5 @@
-//! Clones of lists and of their owning iterators. Each call requires that the clone of a value, and
-//! of a separator, equals its source.
+//! Methods that clone lists, and methods that clone the iterators that own the values of a list.
+//! Each method requires that the clone of a value or of a separator equals the original.
 ghost use Rattle.std.specs.Prelude.{◌≡◌, IfOk};
 ghost use Rattle.syn_punctuated.specs.Private.Boxes.{boxed_values};
 ghost use Rattle.syn_punctuated.specs.Lists.{values_of, separators_of};
@@ -10,7 +10,7 @@ use crate::punctuated::Punctuated;
 use std::alloc::{AllocError, Global};
 use std::collections::VecDeque;
 
-/// Clones the bare last value.
+/// Clones the value in `last`, if there is one.
 fn clone_last<T: Clone + Drop>(
     alloc: Global,
     last: &Option<Box<T>>,
@@ -42,13 +42,13 @@ fn clone_pairs<T: Clone + Drop, P: Clone + Drop>(
 }
 
 impl<T: Clone + Drop, P: Clone + Drop> Punctuated<T, P> {
-    /// Clones the values and the separators.
+    /// Clones the list, with its values and separators.
     ///
     /// Returns an error if an allocation fails.
     ///
     /// # Requires
     ///
-    /// A clone must equal its source.
+    /// Every clone of a value or of a separator must equal the original.
     pub fn clone(&self) -> Result<Self, AllocError>
         requires values { (x : T) (y : T) → T.is_clone x y → y ≡ x }
         requires separators { (x : P) (y : P) → P.is_clone x y → y ≡ x }
@@ -67,13 +67,13 @@ impl<T: Clone + Drop, P: Clone + Drop> Punctuated<T, P> {
 }
 
 impl<T: Clone + Drop, P: Clone + Drop> IntoIter<T, P> {
-    /// Clones the values that are left, and the separators that are left with them.
+    /// Clones the iterator, with the remaining values and their separators.
     ///
     /// Returns an error if an allocation fails.
     ///
     /// # Requires
     ///
-    /// A clone must equal its source.
+    /// Every clone of a value or of a separator must equal the original.
     pub fn clone(&self) -> Result<Self, AllocError>
         requires values { (x : T) (y : T) → T.is_clone x y → y ≡ x }
         requires separators { (x : P) (y : P) → P.is_clone x y → y ≡ x }
@@ -86,13 +86,13 @@ impl<T: Clone + Drop, P: Clone + Drop> IntoIter<T, P> {
 }
 
 impl<T: Clone + Drop, P: Clone + Drop> IntoPairs<T, P> {
-    /// Clones the pairs that are left.
+    /// Clones the iterator, with the remaining pairs.
     ///
     /// Returns an error if an allocation fails.
     ///
     /// # Requires
     ///
-    /// A clone must equal its source.
+    /// Every clone of a value or of a separator must equal the original.
     pub fn clone(&self) -> Result<Self, AllocError>
         requires values { (x : T) (y : T) → T.is_clone x y → y ≡ x }
         requires separators { (x : P) (y : P) → P.is_clone x y → y ≡ x }

@@ -1,4 +1,4 @@
-//! Adding and removing values and separators.
+//! Methods that add values and separators to a list, and methods that remove them.
 ghost use Rattle.std.specs.Prelude.{◌≡◌, ◌+◌, ◌≤◌, ◌<◌, [], ◌∷◌, ◌++◌, length, take, true, is_some, option_map};
 ghost use Rattle.std.specs.Prelude.{option_and_then, option_to_list, IfOk, OnErr, OnOk, IfNone};
 ghost use Rattle.std.specs.List.{insert};
@@ -11,9 +11,9 @@ use crate::punctuated::Punctuated;
 use std::alloc::AllocError;
 
 impl<T: Drop, P: Drop> Punctuated<T, P> {
-    /// Appends a bare last value.
+    /// Appends `value` to the list, without a separator after it.
     ///
-    /// If the allocation fails, the list is unchanged and the value is dropped.
+    /// Returns an error if an allocation fails. The list is then unchanged, and `value` is dropped.
     ///
     /// # Requires
     ///
@@ -29,13 +29,14 @@ impl<T: Drop, P: Drop> Punctuated<T, P> {
         Ok(())
     }
 
-    /// Appends a separator after the bare last value.
+    /// Appends `separator` to the list, after the last value.
     ///
-    /// If the allocation fails, the list is unchanged and the separator is dropped.
+    /// Returns an error if an allocation fails. The list is then unchanged, and `separator` is
+    /// dropped.
     ///
     /// # Requires
     ///
-    /// The list must end in a bare value.
+    /// The list must end in a value without a separator.
     pub fn push_punct(&mut self, separator: P) -> Result<(), AllocError>
         requires { length (values_of self.old) ≡ length (separators_of self.old) + 1 }
         ensures ok { OnOk result
@@ -53,8 +54,10 @@ impl<T: Drop, P: Drop> Punctuated<T, P> {
         Ok(())
     }
 
-    /// Removes and returns the last value. A separator after it is dropped; the one before it
-    /// stays.
+    /// Removes the last value and returns it, or `None` if the list is empty.
+    ///
+    /// The call drops the separator after the value, if there is one. The separator before the
+    /// value remains in the list.
     pub fn pop(&mut self) -> Option<T>
         ensures values { values_of self.old ≡ values_of self.new ++ option_to_list result }
         ensures separators { separators_of self.new
@@ -67,10 +70,11 @@ impl<T: Drop, P: Drop> Punctuated<T, P> {
         }
     }
 
-    /// Removes and returns the last separator, or returns `None` if the list is empty or ends in a
-    /// bare value.
+    /// Removes the last separator and returns it, or `None` if the list is empty or ends in a
+    /// value.
     ///
-    /// The value before it becomes bare, which allocates. If that fails, the list is unchanged.
+    /// The call allocates memory for the value before the separator. If this allocation fails, the
+    /// call returns an error and the list is unchanged.
     pub fn pop_punct(&mut self) -> Result<Option<P>, AllocError>
         ensures values { values_of self.new ≡ values_of self.old }
         ensures taken { IfOk result
@@ -98,7 +102,9 @@ impl<T: Drop, P: Drop> Punctuated<T, P> {
         }
     }
 
-    /// Removes and returns the last value with the separator after it, if there is one.
+    /// Removes the last value and the separator after it, if any, and returns both as a pair.
+    ///
+    /// Returns `None` if the list is empty.
     pub fn pop_pair(&mut self) -> Option<Pair<T, P>>
         ensures values { values_of self.old
             ≡ values_of self.new ++ option_to_list (option_map value_of_pair result) }
@@ -115,7 +121,7 @@ impl<T: Drop, P: Drop> Punctuated<T, P> {
         }
     }
 
-    /// Removes all values and separators.
+    /// Removes all values and separators from the list.
     pub fn clear(&mut self)
         ensures values { values_of self.new ≡ [] }
         ensures separators { separators_of self.new ≡ [] }
@@ -126,9 +132,11 @@ impl<T: Drop, P: Drop> Punctuated<T, P> {
 }
 
 impl<T: Drop, P: Default + Drop> Punctuated<T, P> {
-    /// Appends a value, after a default separator if the list ends in a bare value.
+    /// Appends `value` to the list.
     ///
-    /// If an allocation fails, the list is unchanged and the value is dropped.
+    /// If the list ends in a value without a separator, the call first appends a default separator.
+    ///
+    /// Returns an error if an allocation fails. The list is then unchanged, and `value` is dropped.
     pub fn push(&mut self, value: T) -> Result<(), AllocError>
         ensures ok { OnOk result (values_of self.new ≡ values_of self.old ++ value ∷ []) }
         ensures separators { OnOk result (AddsDefault P.is_default self.old self.new) }
@@ -145,14 +153,15 @@ impl<T: Drop, P: Default + Drop> Punctuated<T, P> {
         }
     }
 
-    /// Inserts a value at `index`, with a default separator after it. At the end it appends as
-    /// `push` does.
+    /// Inserts `value` at `index`, with a default separator after it.
     ///
-    /// If an allocation fails, the list is unchanged and the value is dropped.
+    /// If `index` is the length of the list, the call appends `value` in the same way as `push`.
+    ///
+    /// Returns an error if an allocation fails. The list is then unchanged, and `value` is dropped.
     ///
     /// # Requires
     ///
-    /// `index` must be at most the length.
+    /// `index` must be at most the length of the list.
     pub fn insert(&mut self, index: usize, value: T) -> Result<(), AllocError>
         requires { index ≤ length (values_of self.old) }
         ensures ok { OnOk result (values_of self.new ≡ insert (values_of self.old) index value) }

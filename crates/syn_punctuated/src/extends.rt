@@ -1,4 +1,4 @@
-//! Adding many values.
+//! Methods that append many values or pairs to a list, and functions that create a list from them.
 ghost use Rattle.std.specs.Prelude.{◌≡◌, [], ◌∷◌, ◌++◌, length, option_to_list, Some, IfOk, IfErr, OnOk, OnErr};
 ghost use Rattle.std.specs.Iterator.{IsFiniteIterable};
 ghost use Rattle.syn_punctuated.specs.Adds.{ExtendsWithValues, ExtendsWithPairs, ExtendsAfterDefault};
@@ -12,10 +12,10 @@ use crate::punctuated::Punctuated;
 use std::alloc::{AllocError, Global};
 use std::fmt;
 
-/// The error of a call that adds pairs, and could not add all.
+/// The error type of the calls that create a list from pairs, or append pairs to a list.
 #[derive(Clone, Copy, Debug, PartialEq, Eq)]
 pub enum PairsFault {
-    /// P1: a pair follows one without a separator.
+    /// A pair comes after a pair that has no separator (rule P1).
     AfterEnd,
     /// An allocation failed.
     Memory,
@@ -45,7 +45,7 @@ impl From<AllocError> for PairsFault {
 }
 
 impl<T: Drop, P: Drop> Punctuated<T, P> {
-    /// Appends a pair.
+    /// Appends `pair` to the list.
     ///
     /// # Requires
     ///
@@ -67,7 +67,7 @@ impl<T: Drop, P: Drop> Punctuated<T, P> {
         }
     }
 
-    /// Appends pairs in order.
+    /// Appends `pairs` to the list, in order.
     ///
     /// # Requires
     ///
@@ -88,14 +88,14 @@ impl<T: Drop, P: Drop> Punctuated<T, P> {
         Ok(())
     }
 
-    /// Creates a list from pairs.
+    /// Creates a list from `pairs`.
     ///
-    /// Returns `AfterEnd` if a pair follows one without a separator, and `Memory` if an allocation
-    /// fails.
+    /// Returns `AfterEnd` if a pair comes after a pair that has no separator, and `Memory` if an
+    /// allocation fails.
     ///
     /// # Requires
     ///
-    /// The iterator must be finite.
+    /// `pairs` must yield a finite number of pairs.
     pub fn from_pairs<I: IntoIterator<Item = Pair<T, P>>>(
         alloc: Global,
         pairs: I,
@@ -112,13 +112,17 @@ impl<T: Drop, P: Drop> Punctuated<T, P> {
 }
 
 impl<T: Drop, P: Default + Drop> Punctuated<T, P> {
-    /// Appends values in order, each as `push` does.
+    /// Appends the values of `items` to the list, in order.
     ///
-    /// If an allocation fails, the values before it stay and this one is dropped.
+    /// Before each value, the call appends a default separator if the list ends in a value without
+    /// a separator.
+    ///
+    /// Returns an error if an allocation fails. After an error, the list contains the values that
+    /// were already appended, and the current value is dropped.
     ///
     /// # Requires
     ///
-    /// The iterator must be finite.
+    /// `items` must yield a finite number of values.
     pub fn extend_values<I: IntoIterator<Item = T>>(&mut self, items: I) -> Result<(), AllocError>
         requires { IsFiniteIterable I.into_iter_gives I.IntoIter.can_next
             I.IntoIter.remaining items }
@@ -131,13 +135,13 @@ impl<T: Drop, P: Default + Drop> Punctuated<T, P> {
         Ok(())
     }
 
-    /// Creates a list of values with default separators between them.
+    /// Creates a list from the values of `items`, with default separators between them.
     ///
     /// Returns an error if an allocation fails.
     ///
     /// # Requires
     ///
-    /// The iterator must be finite.
+    /// `items` must yield a finite number of values.
     pub fn from_values<I: IntoIterator<Item = T>>(
         alloc: Global,
         items: I,
@@ -153,15 +157,18 @@ impl<T: Drop, P: Default + Drop> Punctuated<T, P> {
         Ok(list)
     }
 
-    /// Appends pairs in order. If the list ends in a bare value, a default separator goes first,
-    /// even if there are no pairs.
+    /// Appends `pairs` to the list, in order.
     ///
-    /// Returns `AfterEnd` if a pair follows one without a separator, and `Memory` if an allocation
-    /// fails. The pairs before it stay, and this one is dropped.
+    /// If the list ends in a value without a separator, the call first appends a default separator,
+    /// even if `pairs` is empty.
+    ///
+    /// Returns `AfterEnd` if a pair comes after a pair that has no separator, and `Memory` if an
+    /// allocation fails. After an error, the list contains the pairs that were already appended,
+    /// and the current pair is dropped.
     ///
     /// # Requires
     ///
-    /// The iterator must be finite.
+    /// `pairs` must yield a finite number of pairs.
     pub fn extend_pairs<I: IntoIterator<Item = Pair<T, P>> + Drop>(
         &mut self,
         pairs: I,

@@ -1,5 +1,5 @@
-//! The iterator that moves out a list's values. Contracts see it as the list of those that are
-//! left.
+//! The iterator that moves the values out of a list. Contracts represent this iterator as the list
+//! of its remaining values.
 ghost use Rattle.std.specs.Prelude.{◌≡◌, length, IfSome};
 ghost use Rattle.std.specs.Iterator.{at_most, UpTo};
 ghost use Rattle.std.specs.Iterator.SizeHint.{IsWithinCount};
@@ -25,7 +25,9 @@ impl<T: Drop, P: Drop> IntoIterator for Punctuated<T, P> {
     }
 }
 
-/// An iterator that moves out the values that are left. A `for` loop over a list makes it.
+/// An iterator that moves the values out of a list.
+///
+/// This iterator is created by a `for` loop over a list.
 #[derive(Drop, Debug)]
 pub struct IntoIter<T, P> {
     pub(crate) pairs: IntoPairs<T, P>,

@@ -1,4 +1,5 @@
-//! The iterator that moves out a list's pairs. Contracts see it as the list of those that are left.
+//! The iterator that moves the pairs out of a list. Contracts represent this iterator as the list
+//! of its remaining pairs.
 ghost use Rattle.std.specs.Prelude.{◌≡◌, length, IfSome};
 ghost use Rattle.std.specs.Iterator.{at_most, UpTo};
 ghost use Rattle.std.specs.Iterator.SizeHint.{IsWithinCount};
@@ -14,7 +15,7 @@ use std::iter::FusedIterator;
 use std::marker::Model;
 
 impl<T, P> Punctuated<T, P> {
-    /// Returns an iterator that moves out the pairs in order.
+    /// Returns an iterator that moves the pairs out of the list, in order.
     pub fn into_pairs(self) -> IntoPairs<T, P>
         ensures rest { result ≡ paired (values_of self) (separators_of self) }
         ensures runs { GivesInOrder (Pair T P) }
@@ -28,7 +29,9 @@ impl<T, P> Punctuated<T, P> {
     }
 }
 
-/// An iterator that moves out the pairs that are left. `into_pairs` returns it.
+/// An iterator that moves the pairs out of a list.
+///
+/// This iterator is created by the `into_pairs` method of `Punctuated`.
 #[derive(Drop, Debug)]
 pub struct IntoPairs<T, P> {
     pub(crate) inner: VecDeque<(T, P)>,

@@ -1,4 +1,5 @@
-//! The iterator over a list's values. Contracts see it as the list of those that are left.
+//! The iterator over the values of a list. Contracts represent this iterator as the list of its
+//! remaining values.
 ghost use Rattle.std.specs.Prelude.{◌≡◌, length, ⊤, IfSome};
 ghost use Rattle.std.specs.Iterator.{at_most, UpTo};
 ghost use Rattle.std.specs.Iterator.SizeHint.{IsWithinCount};
@@ -12,7 +13,7 @@ use std::iter::FusedIterator;
 use std::marker::Model;
 
 impl<T, P> Punctuated<T, P> {
-    /// Returns an iterator over the values in order.
+    /// Returns an iterator over the values of the list, in order.
     pub fn iter(&self) -> Iter<'_, T, P>
         ensures rest { result ≡ values_of self.now }
         ensures runs { ShowsInOrder (deref {X = T}) }
@@ -37,7 +38,9 @@ impl<'a, T, P> IntoIterator for &'a Punctuated<T, P> {
     }
 }
 
-/// An iterator over the values that are left. `iter` returns it.
+/// An iterator over the values of a list.
+///
+/// This iterator is created by the `iter` method of `Punctuated`.
 #[derive(Drop, Debug)]
 pub struct Iter<'a, T, P> {
     pairs: Pairs<'a, T, P>,

@@ -1,4 +1,4 @@
-//! The iterator over a list's values, for writing.
+//! The iterator over mutable references to the values of a list.
 ghost use Rattle.std.specs.Prelude.{◌≡◌, length, IfSome};
 ghost use Rattle.std.specs.Iterator.{UpTo};
 ghost use Rattle.std.specs.Iterator.SizeHint.{IsWithinCount};
@@ -13,7 +13,7 @@ impl<T, P> Punctuated<T, P> {
     ghost use Rattle.syn_punctuated.specs.Lent.{lent_by_values, lent_values};
     ghost use Rattle.syn_punctuated.specs.Paired.{paired};
 
-    /// Returns an iterator over the values in order, for writing.
+    /// Returns an iterator over mutable references to the values of the list, in order.
     pub fn iter_mut(&mut self) -> IterMut<'_, T, P>
         ensures values { lent_values result ≡ values_of self.old }
         ensures pairs { lent_by_values result
@@ -39,7 +39,9 @@ impl<'a, T, P> IntoIterator for &'a mut Punctuated<T, P> {
     }
 }
 
-/// An iterator over the values that are left, for writing. `iter_mut` returns it.
+/// An iterator over mutable references to the values of a list.
+///
+/// This iterator is created by the `iter_mut` method of `Punctuated`.
 #[derive(Drop, Debug)]
 pub struct IterMut<'a, T, P> {
     pairs: PairsMut<'a, T, P>,

@@ -1,4 +1,4 @@
-//! Punctuated lists: values with separators between them, and their parsers.
+//! Lists of values with separators between them, and parsers of such lists.
 #![tactic(auto)]
 
 mod clones;

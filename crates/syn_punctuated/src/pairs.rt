@@ -1,4 +1,5 @@
-//! The iterator over a list's pairs. Contracts see it as the list of those that are left.
+//! The iterator over the pairs of a list. Contracts represent this iterator as the list of its
+//! remaining pairs.
 ghost use Rattle.std.specs.Prelude.{◌≡◌, length, ⊤, IfSome};
 ghost use Rattle.std.specs.Iterator.{at_most, UpTo};
 ghost use Rattle.std.specs.Iterator.SizeHint.{IsWithinCount};
@@ -15,7 +16,9 @@ use std::marker::Model;
 use std::slice;
 
 impl<T, P> Punctuated<T, P> {
-    /// Returns an iterator over the pairs in order.
+    /// Returns an iterator over the pairs of the list, in order.
+    ///
+    /// Each pair contains references to a value and to the separator after it.
     ///
     /// # Examples
     ///
@@ -41,7 +44,9 @@ impl<T, P> Punctuated<T, P> {
     }
 }
 
-/// An iterator over the pairs that are left. `pairs` returns it.
+/// An iterator over the pairs of a list.
+///
+/// This iterator is created by the `pairs` method of `Punctuated`.
 #[derive(Drop, Debug)]
 pub struct Pairs<'a, T, P> {
     pub(crate) inner: slice::Iter<'a, (T, P)>,

@@ -1,4 +1,4 @@
-//! The iterator over a list's pairs, for writing.
+//! The iterator over mutable references to the pairs of a list.
 ghost use Rattle.std.specs.Prelude.{◌≡◌, ◌^◌, ◌<◌, length, IfSome};
 ghost use Rattle.std.specs.Iterator.{UpTo};
 ghost use Rattle.std.specs.Iterator.SizeHint.{IsWithinCount};
@@ -16,7 +16,9 @@ use std::slice;
 impl<T, P> Punctuated<T, P> {
     ghost use Rattle.syn_punctuated.specs.Lent.{lent_pairs};
 
-    /// Returns an iterator over the pairs in order, for writing.
+    /// Returns an iterator over the pairs of the list, in order.
+    ///
+    /// Each pair contains mutable references to a value and to the separator after it.
     pub fn pairs_mut(&mut self) -> PairsMut<'_, T, P>
         ensures { lent_pairs result ≡ paired (values_of self.old) (separators_of self.old) }
     {
@@ -27,7 +29,7 @@ impl<T, P> Punctuated<T, P> {
     }
 }
 
-/// Lends a value and the separator after it.
+/// Returns mutable references to a value and the separator after it.
 fn lend_pair<'a, T, P>(pair: &'a mut (T, P)) -> Pair<&'a mut T, &'a mut P>
     ensures { deref_both_mut result ≡ pair_of pair.old }
 {
@@ -35,7 +37,7 @@ fn lend_pair<'a, T, P>(pair: &'a mut (T, P)) -> Pair<&'a mut T, &'a mut P>
     Pair::Punctuated(value, separator)
 }
 
-/// Lends the bare last value, if there is one.
+/// Converts a mutable reference to the last value to a pair without a separator.
 fn lend_last<'a, T, P>(last: Option<&'a mut T>) -> Option<Pair<&'a mut T, &'a mut P>>
     ensures { option_map deref_both_mut result ≡ option_map end_of (option_copied_mut last.entry) }
 {
@@ -45,7 +47,9 @@ fn lend_last<'a, T, P>(last: Option<&'a mut T>) -> Option<Pair<&'a mut T, &'a mu
     }
 }
 
-/// An iterator over the pairs that are left, for writing. `pairs_mut` returns it.
+/// An iterator over mutable references to the pairs of a list.
+///
+/// This iterator is created by the `pairs_mut` method of `Punctuated`.
 #[derive(Drop, Debug)]
 pub struct PairsMut<'a, T, P> {
     pub(crate) inner: slice::IterMut<'a, (T, P)>,

@@ -1,4 +1,4 @@
-//! The parser of lists, over a rule that says when a list goes on.
+//! The parser of lists, which is generic over the rule that decides when a list ends.
 ghost use Rattle.std.specs.Prelude.{◌≡◌, ◌+◌, ◌<◌, ◌≤◌, false, true, length, IfOk, MatchResult};
 ghost use Rattle.std.specs.Fn.{CalledAtMut};
 ghost use Rattle.tok_buffer.specs.Cursors.{place_of};
@@ -16,23 +16,23 @@ use syn_parse::{Fault, Parse, ParseBuffer, ParseStream, Result};
 use tok_buffer::laws::staying_adds_nothing;
 use tok_buffer::{Cursor, Error};
 
-/// A rule that says when a list with separators of type `P` goes on.
+/// A rule that decides when a list with separators of type `P` ends.
 pub(crate) trait ListRule<P> {
     ghost rule: { Rule };
 
-    /// Returns `true` if another turn begins here. If not, the list ends.
+    /// Returns `true` if another value follows, and `false` if the list ends here.
     fn begins(input: &ParseBuffer<'_>) -> bool
         ensures begins { result ≡ true → rule.begins input.now.place }
         ensures ends { result ≡ false → rule.ends input.now.place };
 
-    /// Returns `true` if a separator follows the value before this place. If not, the list ends
-    /// with the value.
+    /// Returns `true` if a separator follows the last parsed value, and `false` if the list ends
+    /// with this value.
     fn goes_on(input: &ParseBuffer<'_>) -> bool
         ensures goes_on { result ≡ true → rule.goes_on input.now.place }
         ensures stops { result ≡ false → rule.stops input.now.place };
 }
 
-/// Parses a list by this rule, with values from `parser`.
+/// Parses a list that ends by the rule `R`, and parses each of its values with `parser`.
 pub(crate) fn parse_list<'a, R, T, P, F>(
     input: ParseStream<'_, 'a>,
     mut parser: F,
@@ -68,18 +68,18 @@ where
     }
 }
 
-/// The result of one turn.
+/// The result of parsing a value and the separator after it.
 #[derive(Drop)]
 enum Piece<T, P> {
     /// The list ends without another value.
     End,
-    /// The last value, with no separator after it.
+    /// The last value, without a separator after it.
     Bare(T),
-    /// A value and its separator.
+    /// A value and the separator after it.
     Full(T, P),
 }
 
-/// Runs one turn.
+/// Parses a value and the separator after it, if the rule `R` allows them.
 fn read_turn<'a, R, T, P, F>(input: ParseStream<'_, 'a>, parser: &mut F) -> Result<Piece<T, P>>
 where
     R: ListRule<P>,
@@ -101,9 +101,9 @@ where
     Ok(Piece::Full(value, separator))
 }
 
-/// Returns the cursor of the next turn, after one that began at `start`.
+/// Returns the cursor for the next value, or an error if no progress was made since `start`.
 ///
-/// A turn that made no progress is an error, so that a run ends for every value parser and every
+/// Because of this error, the parser of a list terminates for every value parser and every
 /// separator.
 fn next_turn<'a>(input: &ParseBuffer<'a>, start: Cursor<'a>) -> Result<Cursor<'a>>
     ensures progress { MatchResult result
@@ -123,8 +123,8 @@ fn next_turn<'a>(input: &ParseBuffer<'a>, start: Cursor<'a>) -> Result<Cursor<'a
     }
 }
 
-/// Returns `true` if a cursor is later than `start` in the same scope, or is empty and `start` is
-/// not.
+/// Returns `true` if `now` is later than `start` in the same scope, or if `now` is empty and
+/// `start` is not.
 fn has_passed(now: Cursor<'_>, start: Cursor<'_>) -> bool
     ensures test { result ≡ progresses (place_of start.entry) (place_of now.entry) }
     ensures lowers { result ≡ true
@@ -134,7 +134,7 @@ fn has_passed(now: Cursor<'_>, start: Cursor<'_>) -> bool
     start.same_scope(now) && start < now || start.position().is_some() && now.position().is_none()
 }
 
-/// Returns the error of a turn that made no progress.
+/// Returns the error for a value and a separator that made no progress.
 fn no_progress(input: &ParseBuffer<'_>) -> Fault
     ensures { Refuses (no_progress input.now) result }
 {
@@ -144,7 +144,7 @@ fn no_progress(input: &ParseBuffer<'_>) -> Fault
     }
 }
 
-/// Creates a list from pairs and a bare last value.
+/// Creates a list from pairs and a last value without a separator.
 fn with_bare<T: Drop, P: Drop>(
     alloc: Global,
     pairs: Vec<(T, P)>,

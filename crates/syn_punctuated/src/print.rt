@@ -1,4 +1,4 @@
-//! How lists and pairs are written, as tokens and by `Debug`.
+//! Implementations of `ToTokens` and `Debug` for lists and pairs.
 ghost use Rattle.std.specs.Prelude.{◌≡◌, OnOk, OnErr};
 ghost use Rattle.tok_core.specs.Forest.{AppendsFront, concat};
 ghost use Rattle.syn_punctuated.specs.Lists.{values_of, separators_of};
@@ -10,7 +10,7 @@ use std::alloc::AllocError;
 use std::fmt;
 use tok_core::{ToTokens, TokenStream};
 
-/// Appends the tokens of a value, and then those of a separator.
+/// Appends the tokens of `value` to `tokens`, and then the tokens of `separator`.
 fn write_pair<T: ToTokens, P: ToTokens>(
     value: &T,
     separator: &P,
@@ -52,7 +52,7 @@ impl<T: ToTokens, P: ToTokens> ToTokens for Pair<T, P> {
 }
 
 impl<T: fmt::Debug, P: fmt::Debug> fmt::Debug for Punctuated<T, P> {
-    /// Writes values and separators in turn, in brackets.
+    /// Writes the values and separators in order, in brackets.
     fn fmt<W: fmt::Write>(&self, f: &mut fmt::Formatter<W>) -> fmt::Result {
         let mut list = f.debug_list();
         for pair in &self.inner {

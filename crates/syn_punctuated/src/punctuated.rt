@@ -1,4 +1,4 @@
-//! Punctuated lists.
+//! Lists of values with separators between them.
 ghost use Rattle.std.specs.Prelude.{◌≡◌, [], ◌-◌, ◌==◌, length, slice_get};
 ghost use Rattle.std.specs.Option.{option_copied, option_to_list};
 ghost use Rattle.syn_punctuated.specs.Private.Boxes.{boxed_values};
@@ -6,10 +6,11 @@ ghost use Rattle.syn_punctuated.specs.Lists.{values_of, separators_of, is_traili
 
 use std::alloc::Global;
 
-/// A list of values with separators between them. The last value is bare or has a separator too.
+/// A list of values with separators between them. If no separator follows the last value, this
+/// value is *bare*.
 ///
-/// It keeps the allocator it was made with. Two lists are equal if their values are equal in order,
-/// and so are their separators.
+/// A list keeps the allocator that it was created with. Two lists are equal if they have equal
+/// values and equal separators, in the same order.
 ///
 /// # Examples
 ///
@@ -28,7 +29,9 @@ pub struct Punctuated<T, P> {
 }
 
 impl<T, P> Punctuated<T, P> {
-    /// Creates an empty list. It allocates only when something is added.
+    /// Creates an empty list.
+    ///
+    /// The list does not allocate until something is added to it.
     pub fn new(alloc: Global) -> Self
         ensures values { values_of result ≡ [] }
         ensures separators { separators_of result ≡ [] }
@@ -39,28 +42,28 @@ impl<T, P> Punctuated<T, P> {
         }
     }
 
-    /// Returns `true` if the list has no value.
+    /// Returns `true` if the list has no values.
     pub fn is_empty(&self) -> bool
         ensures { result ≡ (length (values_of self.now) == 0) }
     {
         self.len() == 0
     }
 
-    /// Returns the number of values.
+    /// Returns the number of values in the list.
     pub fn len(&self) -> usize
         ensures { result ≡ length (values_of self.now) }
     {
         self.inner.len() + if self.last.is_some() { 1 } else { 0 }
     }
 
-    /// Returns the first value.
+    /// Returns a reference to the first value, or `None` if the list is empty.
     pub fn first(&self) -> Option<&T>
         ensures { option_copied result ≡ slice_get (values_of self.now) 0 }
     {
         self.get(0)
     }
 
-    /// Returns the last value.
+    /// Returns a reference to the last value, or `None` if the list is empty.
     pub fn last(&self) -> Option<&T>
         ensures { option_copied result
             ≡ slice_get (values_of self.now) (length (values_of self.now) - 1) }
@@ -68,7 +71,7 @@ impl<T, P> Punctuated<T, P> {
         self.get(self.len().saturating_sub(1))
     }
 
-    /// Returns the value at `index`, counted from 0.
+    /// Returns a reference to the value at `index`, or `None` if `index` is out of bounds.
     pub fn get(&self, index: usize) -> Option<&T>
         ensures { option_copied result ≡ slice_get (values_of self.now) index }
     {
@@ -96,7 +99,7 @@ impl<T, P> Punctuated<T, P> {
         self.last.is_none()
     }
 
-    /// Returns the last value, unless a separator follows it.
+    /// Returns the last value if no separator follows it, and `None` otherwise.
     pub(crate) fn bare_value(&self) -> Option<&T>
         ensures { option_to_list (option_copied result) ≡ boxed_values self.now.last }
     {

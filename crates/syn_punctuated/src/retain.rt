@@ -1,4 +1,4 @@
-//! Removing values by a condition.
+//! The method `retain`, which removes the values that do not meet a condition.
 ghost use Rattle.std.specs.Prelude.{◌≡◌, map};
 ghost use Rattle.std.specs.Fn.{CalledAtMut};
 ghost use Rattle.syn_punctuated.specs.Retained.{AtEach, Retains, RetainsPairs, TakesAtMut};
@@ -23,7 +23,7 @@ fn test_value<T, P, F: FnMut(&mut T) -> bool>(pair: &mut (T, P), f: &mut F) -> b
     test(&mut pair.0, f)
 }
 
-/// Keeps the pairs for whose values `f` returns `true`.
+/// Retains only the pairs for whose values `f` returns `true`.
 fn retain_pairs<T: Drop, P: Drop, F: FnMut(&mut T) -> bool>(pairs: &mut Vec<(T, P)>, f: &mut F)
     requires { AtEach (CalledAtMut F.FnMut) (TakesAtMut F.FnMut) f.old
         (map (λ p. p.0) pairs.old.items) }
@@ -40,15 +40,16 @@ fn retain_pairs<T: Drop, P: Drop, F: FnMut(&mut T) -> bool>(pairs: &mut Vec<(T, 
 }
 
 impl<T: Drop, P: Drop> Punctuated<T, P> {
-    /// Keeps the values for which `f` returns `true`, each with the separator after it.
+    /// Retains only the values for which `f` returns `true`, together with the separators after
+    /// them.
     ///
-    /// If the list ends in a bare value, the last value that is kept is bare too. `f` sees each value
-    /// once, in order, and may write to it. Nothing is allocated: a value that becomes bare takes over
-    /// the box of the one that goes.
+    /// The call passes each value to `f` once, in order, and `f` may change the value. If the list
+    /// ended in a value without a separator, it still ends in such a value unless it is empty. The
+    /// call does not allocate memory.
     ///
     /// # Requires
     ///
-    /// `f` must be callable on each value in turn, as the calls before leave it.
+    /// `f` must be callable on each value in order, after the calls on all earlier values.
     pub fn retain<F: FnMut(&mut T) -> bool>(&mut self, mut f: F)
         requires { AtEach (CalledAtMut F.FnMut) (TakesAtMut F.FnMut) f (values_of self.old) }
         ensures { Retains (CalledAtMut F.FnMut) f self.old self.new }

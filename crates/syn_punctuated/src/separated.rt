@@ -1,4 +1,4 @@
-//! The parser of separated lists.
+//! The parsers of separated lists, in which another value follows each separator.
 ghost use Rattle.std.specs.Prelude.{◌+◌, ◌≤◌, length, IfOk};
 ghost use Rattle.std.specs.Fn.{CalledAtMut};
 ghost use Rattle.tok_buffer.specs.Progress.{remaining};
@@ -15,7 +15,7 @@ use crate::punctuated::Punctuated;
 use syn_parse::{Parse, ParseBuffer, ParseStream, Result};
 use tok_types::token::Token;
 
-/// The rule of separated lists: a value, and another after each separator that is next.
+/// The rule of separated lists, in which another value follows each separator.
 pub(crate) enum Separated {}
 
 impl<P: Token> ListRule<P> for Separated {
@@ -31,16 +31,20 @@ impl<P: Token> ListRule<P> for Separated {
 }
 
 impl<T: Drop, P: Parse + Token + Drop> Punctuated<T, P> {
-    /// Parses a value with `parser`, and another after each separator, while a separator is next.
+    /// Parses one or more values with `parser`, with separators between them.
     ///
-    /// The list has at least one value and ends in a bare value. It ends for every parser and every
-    /// separator: if a value and its separator leave the stream no later in its scope, the error is
-    /// "parser made no progress". An error leaves the stream where the failing part left it.
+    /// After each value, if a separator is next, the call parses this separator and another value.
+    /// The list has at least one value, and no separator after the last value.
+    ///
+    /// The call terminates for every parser and every separator type. If a value and its separator
+    /// do not move the stream forward in its scope, the call returns the error "parser made no
+    /// progress". After an error, the stream is where the failing parser left it.
     ///
     /// # Requires
     ///
-    /// The parser must be callable wherever a value begins: on this stream, and on what each turn
-    /// leaves of it. No more remains there than at the start.
+    /// `parser` must be callable wherever a value begins in `input`: at the start, and after each
+    /// separator. At these positions, the stream has at most as many remaining tokens and
+    /// delimiters as at the start.
     ///
     /// # Examples
     ///
@@ -75,10 +79,12 @@ impl<T: Drop, P: Parse + Token + Drop> Punctuated<T, P> {
 }
 
 impl<T: Parse + Drop, P: Parse + Token + Drop> Punctuated<T, P> {
-    /// Parses a value, and another after each separator, while a separator is next.
+    /// Parses one or more values, with separators between them.
     ///
-    /// It ends and fails as `parse_separated_nonempty_with` does. It states what it takes only if the
-    /// values' type states that no more is ahead after a value (`lighter` or `lower`).
+    /// The call returns the same errors as `parse_separated_nonempty_with`.
+    ///
+    /// The contract describes the list only if the contract of `T` states that parsing a value
+    /// never increases the number of remaining tokens (see `lighter` and `lower` in `Takings`).
     ///
     /// # Examples
     ///

@@ -1,4 +1,5 @@
-//! The parser of terminated lists.
+//! The parsers of terminated lists, in which a separator follows each value except perhaps the
+//! last.
 ghost use Rattle.std.specs.Prelude.{◌+◌, ◌≤◌, length, IfOk};
 ghost use Rattle.std.specs.Fn.{CalledAtMut};
 ghost use Rattle.tok_buffer.specs.Progress.{remaining};
@@ -14,7 +15,7 @@ use crate::parse::{ListRule, parse_list};
 use crate::punctuated::Punctuated;
 use syn_parse::{Parse, ParseBuffer, ParseStream, Result};
 
-/// The rule of terminated lists: a separator after each value, until the end. The last may be
+/// The rule of terminated lists, in which a separator follows each value. The last separator may be
 /// missing.
 pub(crate) enum Terminated {}
 
@@ -31,17 +32,19 @@ impl<P> ListRule<P> for Terminated {
 }
 
 impl<T: Drop, P: Parse + Drop> Punctuated<T, P> {
-    /// Parses values with `parser`, each followed by a separator, to the end of the stream. The
-    /// last separator may be missing.
+    /// Parses values with `parser` up to the end of the stream, with a separator after each value.
     ///
-    /// It ends for every parser and every separator: if a value and its separator leave the stream
-    /// no later in its scope, the error is "parser made no progress". An error leaves the stream
-    /// where the failing part left it.
+    /// The separator after the last value may be missing.
+    ///
+    /// The call terminates for every parser and every separator type. If a value and its separator
+    /// do not move the stream forward in its scope, the call returns the error "parser made no
+    /// progress". After an error, the stream is where the failing parser left it.
     ///
     /// # Requires
     ///
-    /// The parser must be callable wherever a value begins: on this stream unless it is at its end,
-    /// and on what each turn leaves of it. No more remains there than at the start.
+    /// `parser` must be callable wherever a value begins in the stream: at the start unless the
+    /// stream is at its end, and after each separator. At these positions, the stream has at most
+    /// as many remaining tokens and delimiters as at the start.
     ///
     /// # Examples
     ///
@@ -72,11 +75,13 @@ impl<T: Drop, P: Parse + Drop> Punctuated<T, P> {
 }
 
 impl<T: Parse + Drop, P: Parse + Drop> Punctuated<T, P> {
-    /// Parses values, each followed by a separator, to the end of the stream. The last separator
-    /// may be missing.
+    /// Parses values up to the end of the stream, with a separator after each value.
     ///
-    /// It ends and fails as `parse_terminated_with` does. It states what it takes only if the values'
-    /// type states that no more is ahead after a value (`lighter` or `lower`).
+    /// The separator after the last value may be missing. The call returns the same errors as
+    /// `parse_terminated_with`.
+    ///
+    /// The contract describes the list only if the contract of `T` states that parsing a value
+    /// never increases the number of remaining tokens (see `lighter` and `lower` in `Takings`).
     ///
     /// # Examples
     ///
@@ -94,16 +99,19 @@ impl<T: Parse + Drop, P: Parse + Drop> Punctuated<T, P> {
     }
 }
 
-/// Terminated lists, parsed by a call of their stream.
+/// A trait that adds the method `parse_terminated` to parse streams.
 pub trait ParseTerminated {
     ghost state: { Self → State };
 
-    /// Parses values with `parser`, as `Punctuated::parse_terminated_with` does.
+    /// Parses values with `parser` up to the end of the stream, with a separator after each value.
+    ///
+    /// This method is the same as [`Punctuated::parse_terminated_with`].
     ///
     /// # Requires
     ///
-    /// The parser must be callable wherever a value begins: on this stream unless it is at its end,
-    /// and on what each turn leaves of it. No more remains there than at the start.
+    /// `parser` must be callable wherever a value begins in the stream: at the start unless the
+    /// stream is at its end, and after each separator. At these positions, the stream has at most
+    /// as many remaining tokens and delimiters as at the start.
     ///
     /// # Examples
     ///

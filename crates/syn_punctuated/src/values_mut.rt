@@ -1,4 +1,4 @@
-//! Values for writing.
+//! Methods that return mutable references to the values of a list.
 ghost use Rattle.std.specs.Prelude.{◌≡◌, ◌-◌, ◌<◌, length, vec_len, slice_get, slice_index_or, Some};
 ghost use Rattle.std.specs.Borrow.{sem};
 ghost use Rattle.std.specs.Option.{option_copied_mut};
@@ -9,7 +9,7 @@ use crate::punctuated::Punctuated;
 use std::ops::{Index, IndexMut};
 
 impl<T, P> Punctuated<T, P> {
-    /// Returns the value of a pair for writing.
+    /// Returns a mutable reference to the value of the pair at `index`.
     fn pair_value_mut(&mut self, index: usize) -> &mut T
         requires { index < vec_len self.old.inner }
         ensures* writes_back { sem 𝓛 (lends_pair_value T.row P.row self.entry index result) }
@@ -18,7 +18,7 @@ impl<T, P> Punctuated<T, P> {
         &mut self.inner[index].0
     }
 
-    /// Returns the bare last value for writing.
+    /// Returns a mutable reference to the last value, if no separator follows it.
     fn last_value_mut(&mut self) -> Option<&mut T>
         ensures* writes_back { sem 𝓛 (lends_last_value T.row P.row self.entry result) }
         ensures value { slice_get (values_of self.old) (vec_len self.old.inner)
@@ -30,7 +30,8 @@ impl<T, P> Punctuated<T, P> {
         }
     }
 
-    /// Returns the value at `index` for writing. All else stays.
+    /// Returns a mutable reference to the value at `index`, or `None` if `index` is out of bounds.
+    /// The rest of the list does not change.
     pub fn get_mut(&mut self, index: usize) -> Option<&mut T>
         ensures* writes_back { sem 𝓛 (LendsValue T.row P.row self.entry index result) }
         ensures value { option_copied_mut result ≡ slice_get (values_of self.old) index }
@@ -45,7 +46,7 @@ impl<T, P> Punctuated<T, P> {
         None
     }
 
-    /// Returns the first value for writing.
+    /// Returns a mutable reference to the first value, or `None` if the list is empty.
     pub fn first_mut(&mut self) -> Option<&mut T>
         ensures* writes_back { sem 𝓛 (LendsValue T.row P.row self.entry 0 result) }
         ensures value { option_copied_mut result ≡ slice_get (values_of self.old) 0 }
@@ -53,7 +54,7 @@ impl<T, P> Punctuated<T, P> {
         self.get_mut(0)
     }
 
-    /// Returns the last value for writing.
+    /// Returns a mutable reference to the last value, or `None` if the list is empty.
     pub fn last_mut(&mut self) -> Option<&mut T>
         ensures* writes_back { sem 𝓛
             (LendsValue T.row P.row self.entry (length (values_of self.old) - 1) result) }
