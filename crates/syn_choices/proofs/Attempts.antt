@@ -5,6 +5,7 @@ use Rattle.std.specs.Prelude.{Result, option_map}
 use Rattle.tok_buffer.specs.Order.{same_scope}
 use Rattle.syn_choices.specs.Attempts.{Attempts, attempt_of, attempted, take_attempt}
 use Rattle.syn_parse.proofs.Failing.{says_memory, stays_here}
+use Rattle.syn_parse.proofs.Premises.{given, under}
 use Rattle.syn_parse.proofs.Scopes.{advanced_ahead, in_one_scope}
 use Rattle.syn_parse.specs.Faults.{IsMemory}
 use Rattle.syn_parse.specs.Positions.{scope_trees}
@@ -12,7 +13,7 @@ use Rattle.syn_parse.specs.Reads.{Call}
 use Rattle.syn_parse.specs.State.{State, advanced, forked}
 use Rattle.syn_parse.specs.Takes.{IsMissing, Outcome, TakesAs, Taking, found}
 use Rattle.syn_parse.specs.Takes.{TakeEach, Takes, missing}
-use Rattle.syn_parse.specs.Takings.{Keeps, Takings, told, told_filled, untold}
+use Rattle.syn_parse.specs.Takings.{Keeps, Takings, stated, untold}
 use Rattle.syn_parse.specs.TreesAhead.{ahead, only_trees}
 use Rattle.syn_parse.specs.declared.fault.Fault.{Fault}
 use Rattle.syn_parse.specs.declared.fault.Fault.TheVariants.{Memory, Refused}
@@ -74,10 +75,9 @@ pub attempt_keeps : {T : Type 0} (takes : Takings T) (calls : Call T)
     → (s : State) (r : Result (Option T) Fault) (t : State) → Attempts calls s r t
     → Keeps (attempted takes) s r t
 attempt_keeps untold calls h s r t a = tt
-attempt_keeps (told form take w) calls h s r t a =
-    attempt-takes form take calls s (λ q u c. h (forked s) q u c) r t a
-attempt_keeps (told_filled form take w) calls h s r t a =
-    λ i. attempt-takes form take calls s (λ q u c. h (forked s) q u c i) r t a
+attempt_keeps (stated alone form take w) calls h s r t a =
+    under alone _ _ (λ i.
+    attempt-takes form take calls s (λ q u c. given alone _ _ (h (forked s) q u c) i) r t a)
 
 -- an attempt by a parser whose calls do what others state
 pub attempts_by : {T : Type 0} (calls others : Call T)

@@ -1,3 +1,4 @@
 pub mod Attempts
+mod CallLoops
 pub mod Choices
 mod Turns

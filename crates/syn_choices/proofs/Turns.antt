@@ -1,18 +1,17 @@
 -- Turns of a loop that stays in its scope.
-use Rattle.std.proofs.Common.{◌≡◌, ◌-◌, ◌<◌, ◌≤◌, ◌⊎◌, ℕ, ap, arith, sym, subst, inl, inr}
-use Rattle.std.proofs.Common.{Bool, true, false, List, [], Ok, Err, Option, Some}
-use Rattle.tok_core.specs.Weight.{weight}
+use Rattle.std.proofs.Common.{◌≡◌, ◌-◌, ◌<◌, ◌≤◌, ◌⊎◌, ℕ, ap, arith, inl, inr}
+use Rattle.std.proofs.Common.{Bool, true, false, List, Ok, Err, Option, Some}
 use Rattle.tok_buffer.specs.Order.{same_scope}
 use Rattle.tok_buffer.specs.Place.{Place, at, empty_place, frame}
 use Rattle.tok_buffer.specs.Progress.{remaining}
-use Rattle.tok_buffer.specs.View.{erased_ahead}
 use Rattle.syn_parse.proofs.Failing.{stays_along}
-use Rattle.syn_parse.proofs.Repeats.{TurnsOf, turns-start, turns-stuck}
+use Rattle.syn_parse.proofs.Premises.{given, given_on, under}
+use Rattle.syn_parse.proofs.Repeats.{TurnsOf, turns-stuck}
 use Rattle.syn_parse.proofs.Scopes.{in_one_scope}
 use Rattle.syn_parse.specs.Many.{many_of}
 use Rattle.syn_parse.specs.State.{State}
 use Rattle.syn_parse.specs.Takes.{Stays}
-use Rattle.syn_parse.specs.Takings.{Keeps, Takings, lower, told, told_filled}
+use Rattle.syn_parse.specs.Takings.{Keeps, Takings, lower, stated}
 use Rattle.syn_parse.specs.TreesAhead.{Ahead}
 use Rattle.syn_parse.specs.declared.fault.Fault.{Fault}
 
@@ -38,17 +37,9 @@ pub turns_stuck : {T : Type 0} (test : Option (Ahead → Bool)) (takes : Takings
     → Keeps (many_of test takes) s (Err f) u
 turns_stuck test takes s t u vs n v f so w p e (inl none) =
     turns-stuck test takes s t u vs n v f so w none
-turns_stuck (Some test) (told form take (lower less)) s t u vs n v f so w p e (inr other) =
-    absurd (no_more_elsewhere s u (stays_along s t u so.stays w.1) p e other)
-turns_stuck (Some test) (told_filled form take (lower less)) s t u vs n v f so w p e (inr other) =
-    λ i. absurd (no_more_elsewhere s u
-    (stays_along s t u (so i).stays (w ((so i).stays.0 i)).1) p e other)
+turns_stuck (Some test) (stated alone form take (lower less)) s t u vs n v f so w p e (inr other) =
+    under alone _ _ (λ i.
+    let now = given alone _ _ so i in
+    let call = given alone _ _ w (given_on alone _ _ now.stays.0 i) in
+    absurd (no_more_elsewhere s u (stays_along s t u now.stays call.1) p e other))
 turns_stuck test takes s t u vs n v f so w p e (inr other) = tt
-
--- what is ahead is as heavy as is counted
-pub turns_begin : {T : Type 0} (test : Option (Ahead → Bool)) (takes : Takings T) (s : State)
-    (p : Place) (n : ℕ) (vs : List T) → p ≡ s.place → weight (erased_ahead p) ≤ n → vs ≡ []
-    → TurnsOf test takes s vs s n
-turns_begin test takes s p n vs e h none =
-    subst (λ xs. TurnsOf test takes s xs s n) (sym none)
-    (turns-start test takes s n (omega (arith, h, ap (λ q. weight (erased_ahead q)) e)))

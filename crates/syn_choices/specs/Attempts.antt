@@ -7,12 +7,12 @@ use Rattle.tok_buffer.specs.Order.{same_scope}
 use Rattle.tok_buffer.specs.declared.error.Message.{Message}
 use Rattle.syn_parse.specs.ErrorWords.{refused_at}
 use Rattle.syn_parse.specs.Faults.{IsMemory, Refuses}
-use Rattle.syn_parse.specs.Lighter.{lightens_lower}
+use Rattle.syn_parse.specs.Lighter.{lightens}
 use Rattle.syn_parse.specs.Reads.{Call}
 use Rattle.syn_parse.specs.State.{State, advanced, forked}
 use Rattle.syn_parse.specs.Takes.{Outcome, Taking, found, missing}
-use Rattle.syn_parse.specs.Takings.{Lightens, Takings, Weighs, lighter, lower, told, told_filled}
-use Rattle.syn_parse.specs.Takings.{untold, unweighed}
+use Rattle.syn_parse.specs.Takings.{Lightens, Takings, Weighs, lighter, stated, untold, unweighed}
+use Rattle.syn_parse.specs.Takings.{weighs}
 use Rattle.syn_parse.specs.TreesAhead.{Ahead, after_fork, only_trees}
 use Rattle.syn_parse.specs.declared.fault.Fault.{Fault}
 
@@ -62,13 +62,10 @@ lightens_attempt {A} take h = record {
 abbrev pub attempt_weighs : {A : Type 0} (take : Taking A) → Weighs take
     → Weighs (take_attempt take)
 attempt_weighs take unweighed = unweighed
-attempt_weighs take (lighter h) = lighter (lightens_attempt take h)
-attempt_weighs take (lower h) = lighter (lightens_attempt take (lightens_lower take h))
+attempt_weighs take (weighs x h) = lighter (lightens_attempt take (lightens x take h))
 
 -- the value that an attempt of a type takes
 abbrev pub attempted : {T : Type 0} → Takings T → Takings (Option T)
 attempted untold = untold
-attempted (told form take weighs) =
-    told (option_map form) (take_attempt take) (attempt_weighs take weighs)
-attempted (told_filled form take weighs) =
-    told_filled (option_map form) (take_attempt take) (attempt_weighs take weighs)
+attempted (stated alone form take w) =
+    stated alone (option_map form) (take_attempt take) (attempt_weighs take w)

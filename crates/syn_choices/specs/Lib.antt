@@ -1,3 +1,4 @@
 pub mod Attempts
+pub mod CallLoops
 pub mod Choices
 pub mod Peeks

@@ -1,10 +1,14 @@
-//! More calls of parse streams.
+//! The trait `ParseBufferExt`, which adds methods to parse streams.
 ghost use Rattle.std.specs.Fn.{CalledAtMut, FnOnceReturnsAtMut, FnOnceTakesAtMut};
-ghost use Rattle.std.specs.Prelude.{◌≡◌, ◌+◌, ◌<◌, ◌≤◌, ◌⊎◌, IfOk, MatchResult, false};
+ghost use Rattle.std.specs.Prelude.{◌≡◌, ◌+◌, ◌<◌, ◌≤◌, ◌⊎◌, IfOk, MatchResult, false, true};
 ghost use Rattle.syn_choices.specs.Attempts.{Attempts, attempted, take_attempt};
+ghost use Rattle.syn_choices.specs.CallLoops.{LoopsToEndBy, LoopsWhileBy};
 ghost use Rattle.syn_choices.specs.Choices.{EitherParses, either_of};
 ghost use Rattle.syn_parse.specs.Grouped.{grouped};
-ghost use Rattle.syn_parse.specs.Groups.{IsAfter};
+ghost use Rattle.syn_parse.specs.ErrorWords.{delimiter_words, refused_at};
+ghost use Rattle.syn_parse.specs.Faults.{Refuses};
+ghost use Rattle.syn_parse.specs.Groups.{IsAfter, RunsWithin};
+ghost use Rattle.syn_parse.specs.Loops.{nothing_taken};
 ghost use Rattle.syn_parse.specs.Many.{many, many_to_end};
 ghost use Rattle.syn_parse.specs.Optional.{optional};
 ghost use Rattle.syn_parse.specs.Progress.{ParsesOn};
@@ -13,6 +17,7 @@ ghost use Rattle.syn_parse.specs.State.{State, forked};
 ghost use Rattle.syn_parse.specs.Takes.{TakeEach, Takes, Taking};
 ghost use Rattle.syn_parse.specs.Takings.{Keeps, Lowers, lower, told};
 ghost use Rattle.syn_punctuated.specs.TakeLists.{EachTakes, terminated_list};
+ghost use Rattle.syn_punctuated.specs.Turns.{IsPlainRun, terminated};
 ghost use Rattle.tok_buffer.specs.Cursors.{place_of};
 ghost use Rattle.tok_buffer.specs.Entry.{enter};
 ghost use Rattle.tok_buffer.specs.Order.{same_scope};
@@ -26,11 +31,13 @@ use tok_buffer::Cursor;
 use tok_core::{DelimSpan, Delimiter};
 use tok_types::token::Token;
 
-/// Calls of `ParseBuffer` for choices, attempts, loops by a function, and lists in groups.
+/// An extension trait that adds methods to `ParseBuffer`.
+///
+/// The methods parse choices, optional values, loops over a function, and lists in groups.
 pub trait ParseBufferExt {
     ghost state: { Self → State };
 
-    /// Parses a value that begins with this token, or returns `None` if the token is not next.
+    /// Parses a `T` if the next token is a `P`, and returns `None` otherwise.
     ///
     /// # Examples
     ///
@@ -42,7 +49,7 @@ pub trait ParseBufferExt {
             (state self.new) }
         ensures takes { Keeps (optional P.sees T.takes) (state self.old) result (state self.new) };
 
-    /// Parses an `A` that begins with this token, or a `B` if the token is not next.
+    /// Parses an `A` if the next token is a `P`, and a `B` otherwise.
     ///
     /// # Examples
     ///
@@ -55,11 +62,13 @@ pub trait ParseBufferExt {
         ensures takes { Keeps (either_of P.sees A.takes B.takes) (state self.old) result
             (state self.new) };
 
-    /// Tries to parse a value, and returns `None` if its parser returns an error.
+    /// Tries to parse a `T`, and returns `None` if the parser of `T` rejects the tokens.
     ///
-    /// The value is parsed on a fork. An error is lost, and the stream stays. An allocation failure
-    /// is returned, and the stream stays. If the type's parser leaves the fork in another scope, as
-    /// by `swap`, the error is "parser left its stream", and the stream stays.
+    /// The parser runs on a fork. If it rejects the tokens, the call discards the error, and the
+    /// stream does not move. If an allocation fails, the call returns an error.
+    ///
+    /// If the parser leaves the fork in another scope, for example with `swap`, the call returns
+    /// the error "parser left its stream". The stream then does not move.
     ///
     /// # Examples
     ///
@@ -70,13 +79,13 @@ pub trait ParseBufferExt {
         ensures reads { Does (Attempts T.parses) (state self.old) result (state self.new) }
         ensures takes { Keeps (attempted T.takes) (state self.old) result (state self.new) };
 
-    /// Runs a parser on a fork, and goes to the fork's place if it returns a value.
+    /// Runs `parser` on a fork, and advances the stream to the fork if `parser` returns a value.
     ///
-    /// Errors are as in `attempt`.
+    /// The call handles errors in the same way as `attempt`.
     ///
     /// # Requires
     ///
-    /// The parser must be callable on a fork of this stream.
+    /// `parser` must be callable on a fork of this stream.
     ///
     /// # Examples
     ///
@@ -93,14 +102,17 @@ pub trait ParseBufferExt {
             → TakeEach (λ v. v) value (FnOnceReturnsAtMut F.FnOnce parser)
             → Takes (take_attempt value) (state self.old) result (state self.new) };
 
-    /// Parses values with `parser` as long as this token is next.
+    /// Parses values with `parser` as long as the next token is a `P`.
     ///
-    /// It ends for every parser, and fails as `parse_while` does. A parser that leaves the scope of
-    /// the stream, as by `swap`, has made no progress either.
+    /// The loop terminates for every parser. In the same cases as `parse_while`, the call returns
+    /// the error "parser made no progress". The call also returns this error if `parser` leaves the
+    /// scope of the stream, for example with `swap`, or moves the stream to before the start of the
+    /// loop.
     ///
     /// # Requires
     ///
-    /// The parser must be callable on each stream in which no more remains.
+    /// `parser` must be callable on every stream that has at most as many remaining tokens and
+    /// delimiters as this stream.
     ///
     /// # Examples
     ///
@@ -112,6 +124,8 @@ pub trait ParseBufferExt {
         F: FnMut(ParseStream<'_, '_>) -> Result<T>,
         requires { (f : F) (y : _) → remaining y.now.place ≤ remaining (state self.old).place
             → F.pre f y }
+        ensures calls { LoopsWhileBy P.peeks (CalledAtMut F.FnMut) parser (state self.old) result
+            (state self.new) }
         ensures takes { (value : Taking T) (less : Lowers value)
             → EachTakes value (CalledAtMut F.FnMut)
             → Keeps (many P.sees (told (λ v. v) value (lower less))) (state self.old) result
@@ -119,11 +133,13 @@ pub trait ParseBufferExt {
 
     /// Parses values with `parser` up to the end of the stream.
     ///
-    /// It ends and fails as `parse_while_with` does.
+    /// The loop terminates for every parser, and the call returns the same errors as
+    /// `parse_while_with`.
     ///
     /// # Requires
     ///
-    /// The parser must be callable on each stream in which no more remains.
+    /// `parser` must be callable on every stream that has at most as many remaining tokens and
+    /// delimiters as this stream.
     ///
     /// # Examples
     ///
@@ -135,17 +151,25 @@ pub trait ParseBufferExt {
         F: FnMut(ParseStream<'_, '_>) -> Result<T>,
         requires { (f : F) (y : _) → remaining y.now.place ≤ remaining (state self.old).place
             → F.pre f y }
+        ensures calls { LoopsToEndBy (CalledAtMut F.FnMut) parser (state self.old) result
+            (state self.new) }
         ensures takes { (value : Taking T) (less : Lowers value)
             → EachTakes value (CalledAtMut F.FnMut)
             → Keeps (many_to_end (told (λ v. v) value (lower less))) (state self.old) result
             (state self.new) };
 
-    /// Parses a group with this delimiter, and in it a list as `Punctuated::parse_terminated` does.
-    /// Returns the group's span and the list. To state the list, call the law `parses_go_on` first.
+    /// Parses a list in a group with the delimiter `delimiter`, and returns the span of the group
+    /// and the list.
+    ///
+    /// The call parses the list in the same way as `Punctuated::parse_terminated`.
+    ///
+    /// To prove which list is returned, first call the law `parses_go_on`. The contract describes
+    /// the list only if the contract of `T` states that parsing a value never increases the number
+    /// of remaining tokens (see `lighter` and `lower` in `Takings`).
     ///
     /// # Requires
     ///
-    /// The delimiter must be visible.
+    /// `delimiter` must not be `Delimiter::None`.
     ///
     /// # Examples
     ///
@@ -157,6 +181,9 @@ pub trait ParseBufferExt {
         delimiter: Delimiter,
     ) -> Result<(DelimSpan, Punctuated<T, P>)>
         requires { IsVisibleDelimiter delimiter }
+        ensures runs { Does (λ s. RunsWithin (IsPlainRun terminated T.parses P.parses)
+            (enter delimiter s.place) (refused_at s (delimiter_words delimiter)) s)
+            (state self.old) result (state self.new) }
         ensures takes { ParsesOn P.parses
             → Keeps (grouped delimiter (terminated_list T.takes P.takes)) (state self.old) result
             (state self.new) }
@@ -239,7 +266,9 @@ impl<'a> ParseBufferExt for ParseBuffer<'a> {
         self.within(
             delimiter,
             |content|
-                ensures { ParsesOn P.parses
+                ensures run { IsPlainRun terminated T.parses P.parses content.old result
+                    content.new }
+                ensures takes { ParsesOn P.parses
                     → Keeps (terminated_list T.takes P.takes) content.old result content.new }
             { Punctuated::parse_terminated(content) },
         )
@@ -288,10 +317,11 @@ where
 // a token leaves fewer of them, so there are no more turns than tokens.
 fn next_turn<'a>(input: &ParseBuffer<'a>, start: Cursor<'a>, turns: usize) -> Result<usize>
     ensures { MatchResult result
-        (λ left. (turns ≡ left + 1)
+        (λ left. (turns ≡ left + 1) × (same_scope (place_of start.entry) input.now.place ≡ true)
         × (remaining input.now.place ≤ remaining (place_of start.entry)))
-        (λ _. (turns ≡ 0) ⊎ ((same_scope (place_of start.entry) input.now.place ≡ false)
-        ⊎ (remaining (place_of start.entry) < remaining input.now.place))) }
+        (λ f. ((turns ≡ 0) ⊎ ((same_scope (place_of start.entry) input.now.place ≡ false)
+        ⊎ (remaining (place_of start.entry) < remaining input.now.place)))
+        × Refuses (nothing_taken input.now) f) }
 {
     let Some(left) = turns.checked_sub(1) else {
         return Err(no_progress(input));
@@ -304,6 +334,8 @@ fn next_turn<'a>(input: &ParseBuffer<'a>, start: Cursor<'a>, turns: usize) -> Re
 }
 
 // Returns the error of a value that took no token.
-fn no_progress(input: &ParseBuffer<'_>) -> Fault {
+fn no_progress(input: &ParseBuffer<'_>) -> Fault
+    ensures { Refuses (nothing_taken input.now) result }
+{
     Fault::at(input.allocator(), input.span(), "parser made no progress")
 }

@@ -1,5 +1,6 @@
-//! Choices, attempts and loops by a function in the middle of a parser, lists in groups, and peeks
-//! made of peeks. A parser needs no type of its own for these.
+//! Methods of parse streams for choices, attempts, loops and lists in groups, and peeks that
+//! combine other peeks. A parser that calls these methods needs no separate type for each choice or
+//! loop.
 #![tactic(auto)]
 
 mod ext;

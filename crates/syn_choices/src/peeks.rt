@@ -1,4 +1,4 @@
-//! Peeks that are made of peeks.
+//! Token types that combine the peeks of other token types.
 ghost use Rattle.std.specs.Prelude.{codes};
 ghost use Rattle.syn_choices.specs.Peeks.{BothPeek, EitherPeeks, NoPeek, both_see, either_sees, not_sees};
 ghost use Rattle.syn_parse.specs.Reads.{Peeks2};
@@ -11,9 +11,9 @@ use std::marker::PhantomData;
 use tok_buffer::Cursor;
 use tok_types::token::Token;
 
-/// A peek for a token, and for another one after it.
+/// A pseudo-token for a peek that is true if an `A` is next and the token after it is a `B`.
 ///
-/// Its name in errors is that of the first token.
+/// Error messages show the name of `A` for this type.
 ///
 /// # Examples
 ///
@@ -24,9 +24,10 @@ pub struct Then<A, B> {
     of: PhantomData<(A, B)>,
 }
 
-/// A peek for one of two tokens.
+/// A pseudo-token for a peek that is true if an `A` or a `B` is next.
 ///
-/// Its name in errors is that of the first token: a lookahead names both if it peeks at each.
+/// Error messages show the name of `A` for this type. A lookahead shows both names only if it peeks
+/// at `A` and at `B` separately.
 ///
 /// # Examples
 ///
@@ -37,9 +38,10 @@ pub struct OneOf<A, B> {
     of: PhantomData<(A, B)>,
 }
 
-/// A peek for the absence of a token: true at any other token, and at the end.
+/// A pseudo-token for a peek that is true if no `A` is next.
 ///
-/// Its name in errors is "something else".
+/// The peek is also true at the end of the stream. Error messages show the name "something else"
+/// for this type.
 ///
 /// # Examples
 ///

@@ -20,4 +20,4 @@ returns c =
       c.remaining.ensures.counts,
       ap remaining here,
     ) in
-    (search rules, no_more start now scope less)
+    (search rules, scope, no_more start now scope less)

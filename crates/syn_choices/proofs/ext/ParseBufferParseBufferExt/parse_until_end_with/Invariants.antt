@@ -1,23 +1,15 @@
-use Rattle.std.proofs.Common.{◌≤◌}
+use Rattle.std.proofs.Common.{◌≡◌, false, true}
 use Rattle.std.specs.Fn.{CalledAtMut}
 use Rattle.std.specs.Prelude.{Some, not}
-use Rattle.syn_parse.specs.Many.{where_filled}
+use Rattle.tok_buffer.specs.Place.{is_at_end}
 use Rattle.syn_parse.specs.TreesAhead.{is_spent}
-use Rattle.syn_parse.proofs.Repeats.{TurnsOf}
-use Rattle.syn_parse.specs.Takes.{Taking}
-use Rattle.syn_parse.specs.Takings.{Lowers, lower, told}
-use Rattle.syn_punctuated.specs.TakeLists.{EachTakes}
-use Rattle.tok_buffer.specs.Progress.{remaining}
+use Rattle.syn_choices.proofs.CallLoops.{Turned}
 use Rattle.syn_choices.proofs.ext.ParseBufferParseBufferExt.parse_until_end_with.Given as goal
 
 abbrev pub invariant-loop-start : goal.invariant-loop-start
-invariant-loop-start g l = record {
-  within : remaining l.self.place ≤ remaining l.fn.self.place;
-  turns : (value : Taking g.row.T.Denot) (less : Lowers value)
-      → EachTakes value (CalledAtMut g.F.FnMut)
-      → TurnsOf (Some (λ a. not (is_spent a)))
-      (where_filled (told (λ v. v) value (lower less))) l.fn.self l.values.items l.self l.turns;
-}
+invariant-loop-start g l =
+    Turned (λ p. is_at_end p ≡ false) (λ p. is_at_end p ≡ true) (CalledAtMut g.F.FnMut) l.fn.parser
+    l.fn.self (Some (λ a. not (is_spent a))) true l.values.items l.parser l.self l.turns
 
 abbrev pub decreases-loop-start : goal.decreases-loop-start
 decreases-loop-start g l = l.turns

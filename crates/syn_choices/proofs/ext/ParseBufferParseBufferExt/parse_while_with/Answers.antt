@@ -1,79 +1,53 @@
-use Rattle.std.proofs.Common.{rules, arith, ap, true, false, Ok, Err}
-use Rattle.std.specs.Prelude.{option_map}
-use Rattle.syn_choices.proofs.Turns.{turns_begin, turns_stuck}
-use Rattle.syn_parse.proofs.Repeats.{seen-tests, turns-ended, turns-failed, turns-more}
-use Rattle.syn_parse.proofs.Returned.{error_keeps}
+use Rattle.std.proofs.Common.{rules}
+use Rattle.std.specs.Prelude.{alloc_error, false, true}
+use Rattle.syn_parse.specs.declared.fault.Fault.TheVariants.{Memory}
+use Rattle.syn_parse.proofs.Repeats.{seen-tests}
 use Rattle.syn_parse.specs.Takings.{lower, told}
-use Rattle.tok_buffer.specs.Progress.{remaining}
+use Rattle.syn_choices.proofs.CallLoops.{loop-ended, loop-lost, loop-refused, loop-stuck}
+use Rattle.syn_choices.proofs.CallLoops.{turned-more, turned-none}
 use Rattle.syn_choices.proofs.ext.ParseBufferParseBufferExt.parse_while_with.Goals as goal
 
 pub loop-start-init : goal.loop-start-init
-loop-start-init g c = record {
-  within = omega arith;
-  turns = λ value less each.
-      turns_begin (option_map (λ test a. test a.trees) g.P.Token.sees)
-      (told (λ v. v) value (lower less)) c.args.self.now _ c.remaining-turns.result
-      c.new-values.result.items c.cursor-start.ensures c.remaining-turns.ensures.visible
-      c.new-values.ensures.items;
-}
+loop-start-init g c =
+    turned-none _ _ _ c.args.parser c.args.self.now _ _ _ c.remaining-turns.result
+    c.new-values.result.items c.cursor-start.ensures c.remaining-turns.ensures.visible
+    c.remaining-turns.ensures.counts c.new-values.ensures.items
 
 pub returns-in_err-next_value : goal.returns-in_err-next_value
-returns-in_err-next_value g c = record {
-  takes = λ value less each.
-      let now = c.loop-start in
-      let next = c.next_value.new.input in
-      let fault = c.in_err-next_value.field-0.0 in
-      let test = option_map (λ test a. test a.trees) g.P.Token.sees in
-      let takes = told (λ v. v) value (lower less) in
-      error_keeps _ c.args.self.now next fault c.from_residual.result (search rules)
-      (turns-failed test takes c.args.self.now now.self next now.values.items now.turns fault
-      (now.invariant.turns value less each)
-      (seen-tests g.P.Token.sees takes now.self true c.loop-start-test.ensures.sees)
-      (each now.parser c.next_value.new.parser now.self next (Err fault)
-      c.in_err-next_value.ensures));
-}
+returns-in_err-next_value g c =
+    let h = loop-refused c.loop-start.invariant c.loop-start-test.ensures.peeks _
+    c.next_value.new.parser c.next_value.new.input
+    (λ value less. seen-tests g.P.Token.sees (told (λ v. v) value (lower less))
+    c.loop-start.self true c.loop-start-test.ensures.sees)
+    c.in_err-next_value.ensures c.from_residual.result (search rules) in
+    record { calls = h.0; takes = h.1 }
 
 pub returns-in_err-turns : goal.returns-in_err-turns
-returns-in_err-turns g c = record {
-  takes = λ value less each.
-      let now = c.loop-start in
-      let next = c.next_value.new.input in
-      let v = c.in_ok-next_value.field-0 in
-      let fault = c.in_err-turns.field-0.0 in
-      let test = option_map (λ test a. test a.trees) g.P.Token.sees in
-      let takes = told (λ v. v) value (lower less) in
-      error_keeps _ c.args.self.now next fault c.from_residual-in_err-turns.result (search rules)
-      (turns_stuck test takes c.args.self.now now.self next now.values.items now.turns v fault
-      (now.invariant.turns value less each)
-      (each now.parser c.next_value.new.parser now.self next (Ok v)
-      c.in_ok-next_value.ensures)
-      _ c.cursor-start.ensures c.in_err-turns.ensures);
-}
+returns-in_err-turns g c =
+    let h = loop-stuck c.loop-start.invariant c.loop-start-test.ensures.peeks _
+    c.next_value.new.parser c.next_value.new.input _ _ c.in_ok-next_value.ensures
+    c.cursor-start.ensures c.in_err-turns.ensures.0 c.in_err-turns.ensures.1
+    c.from_residual-in_err-turns.result (search rules) in
+    record { calls = h.0; takes = h.1 }
+
+pub returns-in_err-push-clause-calls : goal.returns-in_err-push-clause-calls
+returns-in_err-push-clause-calls g c =
+    loop-lost c.loop-start.invariant c.loop-start-test.ensures.peeks _
+    c.next_value.new.parser c.next_value.new.input (Memory alloc_error)
+    c.in_ok-next_value.ensures tt c.from_residual-in_err-push.result (search rules)
 
 pub loop-start-preserved : goal.loop-start-preserved
-loop-start-preserved g c = record {
-  within = omega (arith, c.in_ok-turns.ensures.1, ap remaining c.cursor-start.ensures);
-  turns = λ value less each.
-      let now = c.loop-start in
-      let next = c.next_value.new.input in
-      let v = c.in_ok-next_value.field-0 in
-      let test = option_map (λ test a. test a.trees) g.P.Token.sees in
-      let takes = told (λ v. v) value (lower less) in
-      turns-more test takes c.args.self.now now.self next now.values.items now.turns
-      c.in_ok-turns.turns v (now.invariant.turns value less each)
-      (seen-tests g.P.Token.sees takes now.self true c.loop-start-test.ensures.sees)
-      (each now.parser c.next_value.new.parser now.self next (Ok v)
-      c.in_ok-next_value.ensures)
-      c.in_ok-turns.ensures.0 c.push.new.self.items (search rules);
-}
+loop-start-preserved g c =
+    turned-more c.loop-start.invariant c.loop-start-test.ensures.peeks _
+    c.next_value.new.parser c.next_value.new.input _ _
+    (λ value less. seen-tests g.P.Token.sees (told (λ v. v) value (lower less))
+    c.loop-start.self true c.loop-start-test.ensures.sees)
+    c.in_ok-next_value.ensures c.cursor-start.ensures c.in_ok-turns.ensures.0
+    c.in_ok-turns.ensures.1 c.in_ok-turns.ensures.2 c.push.new.self.items (search rules)
 
 pub returns : goal.returns
-returns g c = record {
-  takes = λ value less each.
-      let now = c.loop-start in
-      let test = option_map (λ test a. test a.trees) g.P.Token.sees in
-      let takes = told (λ v. v) value (lower less) in
-      turns-ended test takes c.args.self.now now.self now.values now.turns
-      (now.invariant.turns value less each)
-      (seen-tests g.P.Token.sees takes now.self false c.loop-start-test.ensures.sees);
-}
+returns g c =
+    let h = loop-ended c.loop-start.values c.loop-start.invariant c.loop-start-test.ensures.peeks
+    (λ value less. seen-tests g.P.Token.sees (told (λ v. v) value (lower less))
+    c.loop-start.self false c.loop-start-test.ensures.sees) in
+    record { calls = h.0; takes = h.1 }
