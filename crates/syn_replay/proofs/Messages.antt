@@ -6,7 +6,7 @@ use Rattle.tok_types.specs.Texts.{punctuation_text}
 use Rattle.syn_parse.specs.ErrorWords.{punctuation_message}
 use Rattle.syn_parse.specs.State.{State, fresh}
 use Rattle.syn_replay.specs.Kinds.{Kind, ident, ident_any, lifetime, lifetime_any, literal, punct}
-use Rattle.syn_replay.specs.Kinds.{underscore, keyword, punctuation, kind_message}
+use Rattle.syn_replay.specs.Kinds.{underscore, keyword, punctuation, kind_missing}
 use Rattle.tok_buffer.specs.Messages.{first_message}
 
 pub first_message-one : (r : Message) → first_message (one_message r) ≡ r
@@ -19,7 +19,7 @@ separator_there [] s = refl
 separator_there (c ∷ cs) s = refl
 
 pub message_there : (kind : Kind) (s : State)
-    → kind_message kind s ≡ kind_message kind (fresh s.place s.scope_span)
+    → kind_missing kind s ≡ kind_missing kind (fresh s.place s.scope_span)
 message_there ident s = refl
 message_there ident_any s = refl
 message_there lifetime s = refl

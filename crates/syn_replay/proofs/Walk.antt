@@ -16,8 +16,7 @@ pub mod Nesting
 pub mod OnForks
 pub mod Parsed
 pub mod Pieces
-pub mod Runs
+pub mod Received
 pub mod Steps
-pub mod Tracks
+pub mod Streams
 pub mod Verdict
-pub mod Written

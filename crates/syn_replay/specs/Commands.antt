@@ -1,5 +1,5 @@
 -- Commands: what each asks, what a read answers, and what the program's stand for.
-use Rattle.std.specs.Prelude.{ℕ, ◌+◌, Bool, true, false, cond, List, [], ◌∷◌, ◌++◌, map, Option, Some, None, codes}
+use Rattle.std.specs.Prelude.{ℕ, ◌+◌, Bool, true, false, if◌then◌else◌, List, [], ◌∷◌, ◌++◌, map, Option, Some, None, codes}
 use Rattle.std.specs.List.{list_all}
 use Rattle.tok_lexical.specs.declared.delimiter.Delimiter.{Delimiter}
 use Rattle.tok_leaves.specs.declared.span.Span.{Span}
@@ -15,9 +15,10 @@ use Rattle.syn_parse.specs.Lookahead.{look_message}
 use Rattle.syn_parse.specs.Parses.{read_group}
 use Rattle.syn_parse.specs.State.{fresh}
 use Rattle.syn_replay.specs.Kinds as kinds
-use Rattle.syn_replay.specs.Kinds.{Kind, Look, ignores_invisible, peek_kind, kind_message}
+use Rattle.syn_replay.specs.Kinds.{Kind, Look, ignores_invisible, peek_kind, kind_missing}
 use Rattle.syn_replay.specs.Meanings.{kind_of, look_of, separator_of}
-use Rattle.syn_replay.specs.Reports.{Answer, truth, pieces, absent, listed, found, shown, trees}
+use Rattle.syn_replay.specs.Reports as reports
+use Rattle.syn_replay.specs.Reports.{Answer, truth, absent, found, trees}
 use Rattle.syn_replay.specs.Reports.{refused}
 use Rattle.syn_replay.specs.Turns.{ListOutcome, ListRule, read_all, refused_at, pieces_of, turns, turns_left}
 use Rattle.syn_replay.specs.Turns.{terminated, separated}
@@ -68,24 +69,25 @@ answered_by answers words p (Some r) = (answers r.0, r.1)
 -- the answer to a parse of this kind, and the place after it
 abbrev pub parsed : Kind → Place → Span → Answer × Place
 parsed kind p scope =
-    answered_by (λ ts. pieces (pieces_of ts)) (kind_message kind (fresh p scope)) p
+    answered_by (λ ts. reports.read (pieces_of ts)) (kind_missing kind (fresh p scope)) p
     (kinds.read kind p)
 
--- whole trees
+-- the answer to a read of whole trees, and the place after it
 abbrev pub trees_taken : List ℕ → Place → Span → Option (List Tree × Place) → Answer × Place
 trees_taken words p scope r = answered_by (λ ts. trees (forest ts)) (at_stream p scope words) p r
 
 -- the answer to a list command, and the place after it
 abbrev pub listed_to : ListOutcome → Answer × Place
-listed_to (read_all parts p) = (listed parts, p)
+listed_to (read_all parts p) = (reports.list parts, p)
 listed_to (refused_at r p) = (refused r, p)
 
 -- the first look that is true, or the displays of all
 abbrev pub looked : ℕ → List Look → List (List ℕ) → Place → Span → Answer
-looked n [] noted p scope =
-    refused (look_message (record { place = p; scope_span = scope; missed = noted }))
-looked n (l ∷ ls) noted p scope =
-    cond (kinds.peek l p) (found n) (looked (n + 1) ls (noted ++ kinds.display l ∷ []) p scope)
+looked n [] missed p scope =
+    refused (look_message (record { place = p; scope_span = scope; missed = missed }))
+looked n (l ∷ ls) missed p scope =
+    if kinds.peek l p then found n
+    else looked (n + 1) ls (missed ++ kinds.display l ∷ []) p scope
 
 -- the answer to a read at a place of a scope with this span, and the place after it
 abbrev pub read_answer : StreamRead → Place → Span → Answer × Place
@@ -93,14 +95,15 @@ read_answer (peek l) p scope = (truth (kinds.peek l p), p)
 read_answer (peek2 l) p scope = (truth (kinds.peek2 l p), p)
 read_answer (peek3 l) p scope = (truth (kinds.peek3 l p), p)
 read_answer (parse kind) p scope = parsed kind p scope
-read_answer (optional kind) p scope = cond (peek_kind kind p) (parsed kind p scope) (absent, p)
+read_answer (optional kind) p scope =
+    if peek_kind kind p then parsed kind p scope else (absent, p)
 read_answer empty p scope = (truth (is_at_end p), p)
 read_answer (list rule kind separator) p scope =
     listed_to (turns kind separator scope rule (turns_left p) p)
 read_answer (lookahead ls) p scope = (looked 0 ls [] p scope, p)
-read_answer stream_span p scope = (shown (messages.stream_span p scope), p)
-read_answer cursor_span p scope = (shown (spans.current_span p), p)
-read_answer previous_span p scope = (shown (spans.previous_span p), p)
+read_answer stream_span p scope = (reports.at (messages.stream_span p scope), p)
+read_answer cursor_span p scope = (reports.at (spans.current_span p), p)
+read_answer previous_span p scope = (reports.at (spans.previous_span p), p)
 read_answer next_tree p scope =
     trees_taken (codes "expected token tree") p scope (reads.read_tree p)
 read_answer rest p scope = (trees (rests.rest p), empty_place)

@@ -1,5 +1,5 @@
 -- Commands on a fork, and the same commands on its stream.
-use Rattle.std.specs.Prelude.{◌≡◌, ℕ, ◌+◌, ◌==◌, ◌&&◌, ◌||◌, not, nat_le, Bool, true, false, cond}
+use Rattle.std.specs.Prelude.{◌≡◌, ℕ, ◌+◌, ◌==◌, ◌&&◌, ◌||◌, not, nat_le, Bool, true, false, if◌then◌else◌}
 use Rattle.std.specs.Prelude.{List, Option, drop, length, map}
 use Rattle.std.specs.List.{list_all, slice_get}
 use Rattle.std.specs.Option.{option_map}
@@ -8,8 +8,8 @@ use Rattle.tok_buffer.specs.Order.{same_scope}
 use Rattle.syn_replay.specs.Commands.{Action, Command, on, fork, advance, discard, close}
 use Rattle.syn_replay.specs.Reports.{Answer, Line, done, entered, forked}
 use Rattle.syn_replay.specs.Session.State.{Stream, AllStreams, content_of, first_state, is_open_at}
-use Rattle.syn_replay.specs.Session.State.{kind_at, left_from, with_note}
-use Rattle.syn_replay.specs.Session.Step.{Stepped, stream_place, step}
+use Rattle.syn_replay.specs.Session.State.{kind_at, left_from, stream_at, recording}
+use Rattle.syn_replay.specs.Session.Step.{Stepped, step}
 use Rattle.syn_replay.specs.Session.Walk.{last_state, lines_from}
 
 -- of a stream, and the number of the next stream that is made
@@ -36,7 +36,7 @@ module _ (stream made : ℕ) where
   -- on a fork of the stream: the fork has the number that the next stream had, and each stream that
   -- the commands make one more
   abbrev pub on_fork : ℕ → ℕ
-  on_fork n = cond (n == stream) made (n + 1)
+  on_fork n = if n == stream then made else n + 1
 
   -- the action, with the number of each stream that it names shifted by the fork
   abbrev pub action_on_fork : Action → Action
@@ -72,9 +72,7 @@ module _ (st : AllStreams) (stream : ℕ) (commands : List Command) where
   -- the fork is still in the stream's scope
   abbrev pub InScope : Type 0
   InScope =
-      same_scope (stream_place (slice_get tried stream)) (stream_place (slice_get tried
-      (length st)))
-      ≡ true
+      same_scope (stream_at tried stream).place (stream_at tried (length st)).place ≡ true
 
   -- the stream advances to the fork
   abbrev pub taken : Stepped
@@ -83,7 +81,7 @@ module _ (st : AllStreams) (stream : ℕ) (commands : List Command) where
   -- the stream, once the contents that the commands made from it and left open are closed
   abbrev pub closed : Option Stream
   closed =
-      option_map (with_note (left_from stream (length st) (drop (length st) direct)))
+      option_map (recording (left_from stream (length st) (drop (length st) direct)))
       (slice_get direct stream)
 
   -- the commands close all contents that they make from the stream

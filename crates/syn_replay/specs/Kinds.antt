@@ -122,6 +122,6 @@ refused_words (keyword k) p = expected (in_backquotes (keyword_text k))
 refused_words (punctuation k) p = expected (in_backquotes (punctuation_text k))
 
 -- the error of a kind that is not read at the place of a stream
-abbrev pub kind_message : Kind → parse.State → Message
-kind_message (punctuation k) s = punctuation_message (punctuation_text k) s
-kind_message k s = refused_at s (refused_words k s.place)
+abbrev pub kind_missing : Kind → parse.State → Message
+kind_missing (punctuation k) s = punctuation_message (punctuation_text k) s
+kind_missing k s = refused_at s (refused_words k s.place)

@@ -68,14 +68,14 @@ pieces_in ps = map piece_of ps.items
 -- the answer that a value of the program is
 abbrev pub answer_of : answers.Answer → spec.Answer
 answer_of (answer.Truth b) = spec.truth b
-answer_of (answer.Read ps) = spec.pieces (map piece_of ps.items)
+answer_of (answer.Read ps) = spec.read (map piece_of ps.items)
 answer_of answer.Absent = spec.absent
 answer_of (answer.Entered n d s) = spec.entered n d (whole_span s)
 answer_of (answer.Forked n) = spec.forked n
-answer_of (answer.List parts) = spec.listed (map pieces_in parts.items)
+answer_of (answer.List parts) = spec.list (map pieces_in parts.items)
 answer_of (answer.Found n) = spec.found n
 answer_of answer.Done = spec.done
-answer_of (answer.At s) = spec.shown s
+answer_of (answer.At s) = spec.at s
 answer_of (answer.Trees f) = spec.trees f
 answer_of (answer.Refused e) = spec.refused (first_message e)
 answer_of (answer.Misused m) = spec.misused m

@@ -1,6 +1,6 @@
 -- The printed text of a report.
 use Rattle.tok_buffer.specs.Messages.{message_span}
-use Rattle.std.specs.Prelude.{ℕ, true, false, cond, List, [], ◌∷◌, ◌++◌, Some, None, codes}
+use Rattle.std.specs.Prelude.{ℕ, true, false, if◌then◌else◌, List, [], ◌∷◌, ◌++◌, Some, None, codes}
 use Rattle.std.specs.Fmt.{decimal}
 use Rattle.std.specs.List.{flat_map}
 use Rattle.tok_leaves.specs.declared.span.Span.{Span}
@@ -10,8 +10,8 @@ use Rattle.tok_leaves.specs.Spans.{range}
 use Rattle.tok_lexical.specs.Delimiters.{opening}
 use Rattle.tok_core.specs.Text.{text}
 use Rattle.tok_buffer.specs.declared.error.Message.{Message}
-use Rattle.syn_replay.specs.Reports.{Piece, Answer, truth, pieces, absent, entered, forked, listed}
-use Rattle.syn_replay.specs.Reports.{found, done, shown, trees, refused, misused, Position}
+use Rattle.syn_replay.specs.Reports.{Piece, Answer, truth, read, absent, entered, forked, list}
+use Rattle.syn_replay.specs.Reports.{found, done, at, trees, refused, misused, Position}
 use Rattle.syn_replay.specs.Reports.{stands_at, at_empty, missing, Line, Verdict, accepted}
 use Rattle.syn_replay.specs.Reports.{left_over, Report}
 use Rattle.syn_replay.specs.declared.report.Misuse.{Misuse}
@@ -49,7 +49,7 @@ part_text (p ∷ ps) =
 
 -- trees after others: a space parts them from these, and no trees add none
 abbrev pub trees_text : Forest → List ℕ
-trees_text f = cond (has_trees f) (codes " " ++ text f) []
+trees_text f = if has_trees f then codes " " ++ text f else []
 
 -- a misuse is printed as a number
 abbrev pub misuse_number : Misuse → ℕ
@@ -63,17 +63,17 @@ misuse_number OutOfScope = 5
 abbrev pub answer_text : Answer → List ℕ
 answer_text (truth true) = codes "true"
 answer_text (truth false) = codes "false"
-answer_text (pieces ps) = codes "read" ++ flat_map piece_text ps
+answer_text (read ps) = codes "read" ++ flat_map piece_text ps
 answer_text (entered n delimiter span) =
     codes "entered "
     ++ (decimal n ++ (codes " " ++ (opening delimiter ++ (codes " " ++ span_text span))))
 answer_text absent = codes "none"
 answer_text (forked n) = codes "forked " ++ decimal n
-answer_text (listed parts) = codes "list" ++ flat_map part_text parts
+answer_text (list parts) = codes "list" ++ flat_map part_text parts
 answer_text (found n) = codes "found " ++ decimal n
 answer_text (trees f) = codes "trees" ++ trees_text f
 answer_text done = codes "done"
-answer_text (shown span) = codes "span " ++ span_text span
+answer_text (at span) = codes "span " ++ span_text span
 answer_text (refused r) = message_text r
 answer_text (misused m) = codes "refused C" ++ decimal (misuse_number m)
 

@@ -14,14 +14,14 @@ pub record Piece : Type 0 where
 -- the answer to a command
 pub data Answer : Type 0 where
   truth : Bool → Answer
-  pieces : List Piece → Answer
+  read : List Piece → Answer
   absent : Answer
   entered : ℕ → Delimiter → Span → Answer
   forked : ℕ → Answer
-  listed : List (List Piece) → Answer
+  list : List (List Piece) → Answer
   found : ℕ → Answer
   done : Answer
-  shown : Span → Answer
+  at : Span → Answer
   trees : Forest → Answer
   refused : Message → Answer
   misused : Misuse → Answer

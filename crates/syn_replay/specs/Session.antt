@@ -5,7 +5,9 @@ pub mod Entering
 pub mod Step
 pub mod Acceptance
 pub mod Walk
-pub mod Stepping
+pub mod Promises
 pub mod Stream
-pub mod Tracks
+pub mod Streams
 pub mod Links
+pub mod Receivers
+pub mod Rooms

@@ -9,7 +9,7 @@ use Rattle.syn_replay.specs.Agree.{ReportsAgree}
 use Rattle.syn_replay.specs.Commands.{Action, Command, read, enter, is_transparent_read}
 use Rattle.syn_replay.specs.Session.Walk.{walk}
 
--- a read to which they do not matter, or what enters none
+-- a read to which invisible groups do not matter, or an action that enters none
 abbrev pub is_transparent_action : Action → Bool
 is_transparent_action (read r) = is_transparent_read r
 is_transparent_action (enter None) = false

@@ -1,5 +1,5 @@
 -- The two list parsers, turn by turn.
-use Rattle.std.specs.Prelude.{◌≡◌, ◌≤◌, ℕ, zero, suc, ◌+◌, ◌&&◌, nat_lt, Bool, true, false, cond}
+use Rattle.std.specs.Prelude.{◌≡◌, ◌≤◌, ℕ, zero, suc, ◌+◌, ◌&&◌, nat_lt, Bool, true, false, if◌then◌else◌}
 use Rattle.std.specs.Prelude.{List, [], ◌∷◌, ◌++◌, length, Option, Some, None, codes}
 use Rattle.tok_leaves.specs.declared.span.Span.{Span}
 use Rattle.tok_core.specs.Forest.{Tree, leaf}
@@ -12,7 +12,7 @@ use Rattle.tok_buffer.specs.Messages.{plain}
 use Rattle.tok_buffer.specs.declared.error.Message.{Message}
 use Rattle.syn_parse.specs.State.{fresh}
 use Rattle.syn_parse.specs.ErrorWords.{punctuation_message}
-use Rattle.syn_replay.specs.Kinds.{Kind, read, kind_message}
+use Rattle.syn_replay.specs.Kinds.{Kind, read, kind_missing}
 use Rattle.syn_replay.specs.Reports.{Piece}
 
 -- the leaves among the trees read
@@ -66,7 +66,7 @@ module _ (kind : Kind) (separator : List ℕ) (scope : Span) where
   -- after a separator comes another turn, unless nothing was passed
   abbrev pub next_turn : Place → Place → (Place → ListOutcome) → ListOutcome
   next_turn before now go =
-      cond (is_later before now) (go now) (refused_at (no_progress_at now scope) now)
+      if is_later before now then go now else refused_at (no_progress_at now scope) now
 
   -- a separator, and then another turn
   abbrev pub after_value : Place → List Piece → ListOutcome → (Place → ListOutcome) → Place
@@ -84,11 +84,11 @@ module _ (kind : Kind) (separator : List ℕ) (scope : Span) where
   abbrev pub turns : ListRule → ℕ → Place → ListOutcome
   turns rule zero p = refused_at (no_progress_at p scope) p
   turns rule (suc n) p =
-      cond (is_over rule p) (read_all [] p)
-      (after_read (refused_at (kind_message kind (fresh p scope)) p)
-      (λ v q. cond (is_over rule q) (read_all (v ∷ []) q)
-      (after_value p v (without_separator rule v q) (turns rule n) q))
-      (read kind p))
+      if is_over rule p then read_all [] p
+      else after_read (refused_at (kind_missing kind (fresh p scope)) p)
+      (λ v q. if is_over rule q then read_all (v ∷ []) q
+      else after_value p v (without_separator rule v q) (turns rule n) q)
+      (read kind p)
 
 -- a turn that is followed by another reads a tree of the list ahead, so one more than are ahead is
 -- enough

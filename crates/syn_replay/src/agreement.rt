@@ -1,4 +1,4 @@
-//! Reports that agree.
+//! Comparison of two reports.
 pub mod both;
 mod same;
 pub mod written;
@@ -59,9 +59,10 @@ fn verdicts_agree(left: &Verdict, right: &Verdict) -> bool
 
 /// Returns `true` if two reports agree.
 ///
-/// They have as many lines. In each, the answers are equal or errors with equal texts. The verdicts
-/// both accept, or both reject at equal spans. Positions and the spans of errors in lines are not
-/// compared.
+/// Two reports agree if they have equally many lines, their answers agree in order, and their
+/// verdicts agree. Two answers agree if they are equal, or if both are errors with equal texts. Two
+/// verdicts agree if both accept, or if both reject at equal spans. Positions and the spans of
+/// errors in answers are not compared.
 pub fn agree(left: &Report, right: &Report) -> bool
     ensures { (result ≡ true) ↔ ReportsAgree (report_of left.now) (report_of right.now) }
 {

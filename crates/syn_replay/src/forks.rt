@@ -1,4 +1,4 @@
-//! Commands that may run on a fork in place of its stream.
+//! A test for commands that have the same effect on a fork as on the stream itself.
 ghost use Rattle.std.specs.Prelude.{◌≡◌, map};
 ghost use Rattle.syn_replay.specs.Forks as spec;
 ghost use Rattle.syn_replay.specs.Commands.{command_of};
@@ -25,11 +25,11 @@ impl Command {
     }
 }
 
-/// Returns `true` if the commands do on a fork of `stream` what they do on `stream` itself, once
-/// `stream` has advanced to that fork. `made` is the number that the next stream gets.
+/// Returns `true` if the commands name only `stream` and new streams, and none of them advances a
+/// stream, discards a fork or closes `stream`. `made` is the number that the next new stream gets.
 ///
-/// Such commands name only `stream` and streams that they make. None of them advances a stream,
-/// discards a fork, or closes `stream`.
+/// Such commands can run on a fork of `stream` instead. Once `stream` has advanced to the fork, the
+/// effect is as if the commands had run on `stream`, and the groups that they left open were closed.
 ///
 /// # Examples
 ///

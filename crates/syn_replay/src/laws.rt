@@ -1,4 +1,4 @@
-//! Laws of replays. Each is the contract of a function that does nothing.
+//! Laws about replays. Each law is the contract of a function that does nothing.
 ghost use Rattle.syn_replay.specs.Forks.{ForksFollowCommands};
 ghost use Rattle.tok_lexical.specs.Laws.{ClonesKeep, EqualAsValues};
 ghost use Rattle.syn_replay.specs.Nesting.{InnerStreamsEndToo};
@@ -8,51 +8,62 @@ ghost use Rattle.syn_replay.specs.Turns.{MoreTurnsChangeNothing};
 use crate::command::{Kind, Look, Separator};
 use crate::report::{Misuse, Position};
 
-/// If two streams differ only in invisible groups, and each of these contains a visible token,
-/// every list of transparent commands has equal answers and errors with equal texts on both. The
-/// delimiter that a leftover expected is not compared.
+/// The reports on two token streams agree if the streams differ only in invisible groups, each of
+/// which contains a visible token, and every command is transparent.
+///
+/// Two reports agree if their answers are equal, or errors with equal texts, and their verdicts
+/// both accept, or both reject at equal spans. The texts of two rejecting verdicts may differ: one
+/// text may name an expected delimiter that the other text does not name.
 pub fn invisible_groups_do_not_matter()
     ensures { InvisibleGroupsDoNotMatter }
 {}
 
-/// A list parser takes at most one turn more than there are visible trees ahead. Allowing more
-/// turns changes nothing.
+/// If `n` visible token trees are left in a stream, a list parser needs at most `n + 1` turns. A
+/// higher limit on its turns does not change the result.
+///
+/// Each turn parses a value and the separator after the value.
 pub fn more_turns_change_nothing()
     ensures { MoreTurnsChangeNothing }
 {}
 
-/// If a stream advances to a fork after self-contained commands on it, the answers, the place and
-/// the leftover are those of running the commands on the stream itself.
+/// Commands on a fork have the effect of the same commands on the stream itself, once the stream
+/// has advanced to the fork.
 ///
-/// The commands are those for which `is_self_contained` returns `true`. The fork must still be in
-/// the stream's scope. The numbers of streams differ by the fork. The contents that the commands
-/// leave open are closed.
+/// The answers, the position of the stream and its recorded leftover token are equal. The commands
+/// must be self-contained (see `is_self_contained`), and the fork must still be in the stream's
+/// scope.
+///
+/// The fork has a number too, so each new stream has a number that is higher by one. Advancing to
+/// the fork closes the groups that the commands left open.
 pub fn forks_follow_commands()
     ensures { ForksFollowCommands }
 {}
 
 /// Closing or discarding a stream, or advancing to it, ends that stream and every stream inside it.
-/// No other stream ends. A discard changes nothing else.
+/// No other stream ends. Discarding a fork changes nothing else.
 ///
-/// A stream is inside another if its parent is the other stream, or is inside that one.
+/// A group's stream is inside the stream from which the group was entered, and inside every stream
+/// that contains this stream.
 pub fn inner_streams_end_too()
     ensures { InnerStreamsEndToo }
 {}
 
-/// Positions, and the reasons why a command doesn't fit, are equal if and only if they are the same.
+/// For two values of the type `Position` or `Misuse`, `a == b` is `true` if and only if the
+/// variants and their fields are equal.
 pub fn positions_are_compared_whole()
     ensures positions { EqualAsValues ⟦<Position as PartialEq>⟧.eq }
     ensures misuses { EqualAsValues ⟦<Misuse as PartialEq>⟧.eq }
 {}
 
-/// Kinds, looks and separators are equal if and only if they are the same.
+/// For two values of the type `Kind`, `Look` or `Separator`, `a == b` is `true` if and only if the
+/// variants and their fields are equal.
 pub fn looks_are_compared_whole()
     ensures kinds { EqualAsValues ⟦<Kind as PartialEq>⟧.eq }
     ensures looks { EqualAsValues ⟦<Look as PartialEq>⟧.eq }
     ensures separators { EqualAsValues ⟦<Separator as PartialEq>⟧.eq }
 {}
 
-/// A clone is the kind, look, separator, position or reason that was cloned.
+/// A clone of a `Kind`, `Look`, `Separator`, `Position` or `Misuse` equals the original.
 pub fn clones_keep_commands()
     ensures kinds { ClonesKeep ⟦<Kind as Clone>⟧.is_clone }
     ensures looks { ClonesKeep ⟦<Look as Clone>⟧.is_clone }

@@ -1,5 +1,6 @@
-//! `replay`, which runs a list of commands over a token stream, its report, and `agree`, which
-//! compares two reports.
+//! Runs lists of parse commands over token streams.
+//!
+//! `replay` returns a report with an answer to each command, and `agree` compares two reports.
 #![tactic(auto)]
 
 mod agreement;

@@ -1,10 +1,12 @@
-//! A law of replays. It is the contract of a function that does nothing.
+//! A law about replays, which is the contract of a function that does nothing.
 ghost use Rattle.visible_replay.specs.Decide.{VisibleTokensDecide};
 
-/// Visible tokens decide all that transparent commands answer, whatever invisible groups there are.
+/// If the same transparent commands run over two pruned streams with equal visible tokens,
+/// including their spans, then the two reports agree.
 ///
-/// If two streams have equal visible tokens, spans included, then every list of transparent commands
-/// has equal answers, and errors with equal texts, on both of them pruned.
+/// The function `prune` prunes a stream: it removes the invisible groups that contain no visible
+/// token. `is_transparent` decides which commands are transparent, and `agree` decides when two
+/// reports agree.
 pub fn visible_tokens_decide()
     ensures { VisibleTokensDecide }
 {}

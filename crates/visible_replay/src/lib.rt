@@ -1,4 +1,5 @@
-//! Runs commands over what is visible of a stream, whatever invisible groups it has.
+//! Functions that run commands over the visible tokens of a stream, regardless of its invisible
+//! groups.
 #![tactic(auto)]
 
 pub mod laws;

@@ -1,10 +1,10 @@
-//! Replays over pruned streams.
+//! Functions that run commands over pruned streams.
 ghost use Rattle.std.specs.Prelude.{◌≡◌, true, IfOk, map};
 ghost use Rattle.syn_replay.specs.Agree.{ReportsAgree};
 ghost use Rattle.syn_replay.specs.Commands.{command_of};
 ghost use Rattle.syn_replay.specs.Meanings.{report_of, verdict_of};
 ghost use Rattle.syn_replay.specs.Session.Acceptance.{IsExact};
-ghost use Rattle.syn_replay.specs.Session.Stepping.{ArePlain, IsPlainVerdict};
+ghost use Rattle.syn_replay.specs.Session.Promises.{ArePlain, IsPlainVerdict};
 ghost use Rattle.syn_replay.specs.Session.Walk.{walk};
 ghost use Rattle.syn_replay.specs.Transparent.{all_transparent};
 ghost use Rattle.tok_core.specs.Erase.{erase};
@@ -15,11 +15,13 @@ use syn_replay::{Command, Report, replay, replay_both};
 use tok_core::TokenStream;
 use tok_pruned::prune;
 
-/// Runs the commands over a stream without its invisible groups that contain nothing visible, as
-/// `replay` does.
+/// Removes the invisible groups that contain no visible token from a stream, and runs commands over
+/// the remaining stream.
 ///
-/// Positions count the openings, leaves and closings that are left. Returns an error if an
-/// allocation fails.
+/// The call removes these groups with `prune`, and then runs the commands with `replay`. The
+/// positions in the report count only the leaves and delimiters that remain.
+///
+/// Returns an error if an allocation fails.
 ///
 /// # Examples
 ///
@@ -45,10 +47,13 @@ pub fn visible_replay(
     replay(alloc, filled, commands)
 }
 
-/// Runs the commands over each of two streams, as `visible_replay` does.
+/// Runs the same commands over each of two streams, as `visible_replay` does, and returns both
+/// reports.
 ///
-/// The reports agree (`agree`) if the visible tokens are equal, spans included, and every command
-/// is transparent. Returns an error if an allocation fails.
+/// If both streams have equal visible tokens, including their spans, and every command is
+/// transparent (see `is_transparent`), then the two reports agree (see `agree`).
+///
+/// Returns an error if an allocation fails.
 ///
 /// # Examples
 ///

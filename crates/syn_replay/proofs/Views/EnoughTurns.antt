@@ -8,7 +8,7 @@ use Rattle.tok_buffer.specs.Place.{Place}
 use Rattle.tok_buffer.specs.Reads.{read_punctuation}
 use Rattle.tok_buffer.proofs.View.Readings.{of_punctuation}
 use Rattle.tok_buffer.proofs.View.Shortens.{LeavesFewer, fewer}
-use Rattle.syn_replay.specs.Kinds.{Kind, read, kind_message}
+use Rattle.syn_replay.specs.Kinds.{Kind, read, kind_missing}
 use Rattle.syn_parse.specs.State.{fresh}
 use Rattle.syn_replay.proofs.Views.KindReads.{of_kind}
 use Rattle.syn_replay.specs.Reports.{Piece}
@@ -52,7 +52,7 @@ module _ (kind : Kind) (separator : List ℕ) (scope : Span) where
     enough-turns (suc n) (suc m) p h k =
         let again = enough-turns n m in
         ap (λ o. cond (is_over rule p) (read_all [] p) o)
-        (after_fewer p (refused_at (kind_message kind (fresh p scope)) p) _ _ (read kind p)
+        (after_fewer p (refused_at (kind_missing kind (fresh p scope)) p) _ _ (read kind p)
         (fewer (of_kind kind).1 p)
         (λ x q f.
         ap (λ o. cond (is_over rule q) (read_all (x ∷ []) q) o)

@@ -19,7 +19,7 @@ use Rattle.syn_parse.proofs.SameWords.{alike-words, alike-at_stream}
 use Rattle.syn_replay.specs.Kinds.{Kind, ident, ident_any, lifetime, lifetime_any, punctuation}
 use Rattle.syn_replay.specs.Kinds.{read, peek_kind, Look, kind, paren, brace, bracket, the_end}
 use Rattle.syn_replay.specs.Kinds.{invisible_group, group_tree, any_tree, peek, peek2, peek3}
-use Rattle.syn_replay.specs.Kinds.{peek_past, ignores_invisible, refused_words, kind_message}
+use Rattle.syn_replay.specs.Kinds.{peek_past, ignores_invisible, refused_words, kind_missing}
 use Rattle.syn_replay.proofs.Views.KindReads.{of_kind}
 
 module _ (f g : Laid) where
@@ -98,9 +98,9 @@ module _ (f g : Laid) where
       alike-at_stream f g s.place t.place s.scope_span t.scope_span w h
       ∙ ap (λ x. (refused_at t x).text) e
 
-  pub alike-kind_message : (k : Kind) (s t : parse.State) → Alike f g s.place t.place
-      → (kind_message k s).text ≡ (kind_message k t).text
-  alike-kind_message (punctuation k) s t h = refl
-  alike-kind_message k s t h =
+  pub alike-kind_missing : (k : Kind) (s t : parse.State) → Alike f g s.place t.place
+      → (kind_missing k s).text ≡ (kind_missing k t).text
+  alike-kind_missing (punctuation k) s t h = refl
+  alike-kind_missing k s t h =
       refused-both s t (refused_words k s.place) (refused_words k t.place)
       (alike-refused_words k s.place t.place h) h

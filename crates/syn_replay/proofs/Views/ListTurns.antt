@@ -14,10 +14,10 @@ use Rattle.tok_buffer.proofs.View.Alike.{Alike, ReadsAlike, alike-end, alike-rea
 use Rattle.tok_buffer.proofs.View.Spans.{same_length}
 use Rattle.tok_buffer.proofs.View.Moves.{LeadsTo}
 use Rattle.tok_buffer.proofs.View.Readings.{of_punctuation}
-use Rattle.syn_replay.specs.Kinds.{Kind, read, kind_message}
+use Rattle.syn_replay.specs.Kinds.{Kind, read, kind_missing}
 use Rattle.syn_parse.specs.State.{fresh}
 use Rattle.syn_replay.proofs.Views.KindReads.{of_kind}
-use Rattle.syn_replay.proofs.Views.KindsAlike.{alike-kind, alike-kind_message}
+use Rattle.syn_replay.proofs.Views.KindsAlike.{alike-kind, alike-kind_missing}
 use Rattle.syn_replay.specs.Reports.{Piece}
 use Rattle.syn_replay.specs.Turns.{ListOutcome, read_all, refused_at, with_parts, is_later, no_progress_at}
 use Rattle.syn_replay.specs.Turns.{after_read, after_value, next_turn, pieces_of, without_separator}
@@ -117,9 +117,9 @@ module _ (f g : Laid) where
     alike-turns rule (suc n) p q h =
         either OutcomesAlike (is_over rule p) (is_over rule q) (read_all [] p) (read_all [] q) _ _
         (alike-over rule p q h) (refl, h)
-        (after-read p q (refused_at (kind_message kind (fresh p left)) p)
-        (refused_at (kind_message kind (fresh q right)) q) _ _ (read kind p) (read kind q)
-        (alike-kind_message f g kind (fresh p left) (fresh q right) h, h)
+        (after-read p q (refused_at (kind_missing kind (fresh p left)) p)
+        (refused_at (kind_missing kind (fresh q right)) q) _ _ (read kind p) (read kind q)
+        (alike-kind_missing f g kind (fresh p left) (fresh q right) h, h)
         (λ x i j k l m.
         either OutcomesAlike (is_over rule i) (is_over rule j) (read_all (x ∷ []) i)
         (read_all (x ∷ []) j) _ _

@@ -1,6 +1,6 @@
 -- A transparent command keeps two walks alike, and its answers agree.
 use Rattle.std.proofs.Common.{◌≡◌, ◌∙◌, ap, ap₂, subst, refl, ℕ, ◌+◌, ◌==◌, ◌&&◌, ◌||◌, not, Bool}
-use Rattle.std.proofs.Common.{true, false, cond, List, [], ◌∷◌, ◌++◌, length, Option, Some, None}
+use Rattle.std.proofs.Common.{true, cond, List, [], ◌∷◌, ◌++◌, length, Option, Some, None}
 use Rattle.std.proofs.lemmas.Bool.{and_parts}
 use Rattle.tok_lexical.specs.declared.delimiter.Delimiter.{Delimiter}
 use Rattle.tok_lexical.specs.declared.delimiter.Delimiter.TheVariants.{Parenthesis, Brace, Bracket}
@@ -14,15 +14,15 @@ use Rattle.tok_buffer.specs.Entry as entry
 use Rattle.tok_buffer.specs.Order.{same_scope}
 use Rattle.tok_buffer.specs.Place.{Place, empty_place}
 use Rattle.tok_buffer.proofs.View.Alike.{Alike, ReadsAlike, EntriesAlike, alike-end, alike-scope}
-use Rattle.tok_buffer.proofs.View.Alike.{alike-empty, alike-enter}
+use Rattle.tok_buffer.proofs.View.Alike.{alike-enter}
 use Rattle.tok_buffer.specs.View.{IsVisibleDelimiter}
 use Rattle.syn_replay.specs.Kinds.{Kind, Look, read, peek, peek_kind, display}
-use Rattle.syn_replay.specs.Kinds.{ignores_invisible, kind_message}
+use Rattle.syn_replay.specs.Kinds.{ignores_invisible, kind_missing}
 use Rattle.syn_parse.specs.ErrorWords.{delimiter_words}
 use Rattle.syn_parse.specs.State.{fresh}
 use Rattle.syn_parse.proofs.SameWords.{alike-at_stream, alike-look}
 use Rattle.syn_replay.proofs.Views.KindsAlike.{alike-kind, alike-peek, alike-peek2, alike-peek3}
-use Rattle.syn_replay.proofs.Views.KindsAlike.{alike-peek_kind, alike-kind_message}
+use Rattle.syn_replay.proofs.Views.KindsAlike.{alike-peek_kind, alike-kind_missing}
 use Rattle.syn_replay.specs.Agree.{AnswersAgree}
 use Rattle.syn_replay.specs.Transparent.{is_transparent, is_transparent_action}
 use Rattle.syn_replay.specs.Commands as commands
@@ -30,21 +30,22 @@ use Rattle.syn_replay.specs.Commands.{Command, Action, StreamRead, enter, fork, 
 use Rattle.syn_replay.specs.Commands.{answered_by, parsed, listed_to, looked, read_answer}
 use Rattle.syn_replay.specs.Commands.{all_ignore_invisible}
 use Rattle.syn_replay.specs.Commands.{is_transparent_read}
-use Rattle.syn_replay.specs.Reports.{Answer, truth, pieces, absent, entered, forked}
-use Rattle.syn_replay.specs.Reports.{listed, found, misused}
+use Rattle.syn_replay.specs.Reports as reports
+use Rattle.syn_replay.specs.Reports.{Answer, truth, absent, entered, forked}
+use Rattle.syn_replay.specs.Reports.{found, misused}
 use Rattle.syn_replay.specs.declared.report.Misuse.{Misuse}
 use Rattle.syn_replay.specs.declared.report.Misuse.TheVariants.{NoStream, Spent, NoFork, NoContent}
 use Rattle.syn_replay.specs.declared.report.Misuse.TheVariants.{OutOfScope}
-use Rattle.syn_replay.specs.Session.State.{Stream, StreamKind, content_of, a_fork, AllStreams}
-use Rattle.std.specs.List.{slice_get}
-use Rattle.syn_replay.specs.Session.State.{with_stream, moved_to, is_inside}
-use Rattle.syn_replay.specs.Session.Step.{Stepped, unmoved, new_stream, into_group, stream_place, tested}
-use Rattle.syn_replay.specs.Session.Step.{on_stream, named_by, is_unknown, has_ended, step_on, step}
-use Rattle.syn_replay.specs.Session.Step.{any_of, is_fork, is_content, of_kind, kind_misuse}
+use Rattle.syn_replay.specs.Session.State.{Stream, content_of, a_fork, AllStreams}
+use Rattle.std.specs.Prelude.{nat_le}
+use Rattle.syn_replay.specs.Session.State.{with_stream, moved_to, is_inside, stream_at}
+use Rattle.syn_replay.specs.Session.Step.{Stepped, unmoved, new_stream, into_group}
+use Rattle.syn_replay.specs.Session.Step.{on_stream, named_by, is_unknown, has_ended, step}
+use Rattle.syn_replay.specs.Session.Step.{any_of, is_fork, is_content, kind_misuse}
 use Rattle.syn_replay.specs.Session.Step.{misuse}
 use Rattle.syn_replay.specs.Turns.{ListOutcome, read_all, refused_at, pieces_of, turns, turns_left}
 use Rattle.syn_replay.proofs.Views.ListTurns.{OutcomesAlike, alike-turns, alike-turns_left}
-use Rattle.syn_replay.proofs.Views.Streams.{StreamsAlike, BothAlike, StatesAlike, alike-slice_get}
+use Rattle.syn_replay.proofs.Views.Streams.{StreamsAlike, StatesAlike, alike-at}
 use Rattle.syn_replay.proofs.Views.Streams.{alike-length, alike-append, alike-with_stream}
 use Rattle.syn_replay.proofs.Views.Streams.{alike-moved}
 use Rattle.syn_replay.proofs.Views.Streams.{alike-closed, alike-advanced, alike-ended}
@@ -62,34 +63,35 @@ module _ (f g : Laid) where
 
   module _ (p q : Place) (left right : Span) (i : Alike f g p q) where
     alike-taken : (kind : Kind) (r u : Option (List Tree × Place)) → ReadsAlike f g r u
-        → AnsweredAlike (answered_by (λ ts. pieces (pieces_of ts)) (kind_message kind
+        → AnsweredAlike (answered_by (λ ts. reports.read (pieces_of ts)) (kind_missing kind
         (fresh p left)) p r)
-        (answered_by (λ ts. pieces (pieces_of ts)) (kind_message kind (fresh q right)) q u)
+        (answered_by (λ ts. reports.read (pieces_of ts)) (kind_missing kind (fresh q right)) q u)
     alike-taken kind None None j =
-        (alike-kind_message f g kind (fresh p left) (fresh q right) i, i)
+        (alike-kind_missing f g kind (fresh p left) (fresh q right) i, i)
     alike-taken kind None (Some u) j = absurd j
     alike-taken kind (Some r) None j = absurd j
-    alike-taken kind (Some r) (Some u) j = (ap (λ x. pieces (pieces_of x)) j.0, j.1)
+    alike-taken kind (Some r) (Some u) j = (ap (λ x. reports.read (pieces_of x)) j.0, j.1)
 
     alike-parsed : (kind : Kind) → AnsweredAlike (parsed kind p left) (parsed kind q right)
     alike-parsed kind = alike-taken kind (read kind p) (read kind q) (alike-kind f g kind p q i)
 
     alike-listed : (a b : ListOutcome) → OutcomesAlike f g a b
         → AnsweredAlike (listed_to a) (listed_to b)
-    alike-listed (read_all x u) (read_all y v) j = (ap listed j.0, j.1)
+    alike-listed (read_all x u) (read_all y v) j = (ap reports.list j.0, j.1)
     alike-listed (read_all x u) (refused_at r v) j = absurd j
     alike-listed (refused_at r u) (read_all y v) j = absurd j
     alike-listed (refused_at r u) (refused_at c v) j = (j.0, j.1)
 
-    alike-looked : (n : ℕ) (ls : List Look) (noted : List (List ℕ)) → all_ignore_invisible ls ≡ true
-        → AnswersAgree (looked n ls noted p left) (looked n ls noted q right)
-    alike-looked n [] noted e = alike-look f g noted p q left right i
-    alike-looked n (l ∷ ls) noted e =
+    alike-looked : (n : ℕ) (ls : List Look) (missed : List (List ℕ))
+        → all_ignore_invisible ls ≡ true
+        → AnswersAgree (looked n ls missed p left) (looked n ls missed q right)
+    alike-looked n [] missed e = alike-look f g missed p q left right i
+    alike-looked n (l ∷ ls) missed e =
         let parts = and_parts (ignores_invisible l) (all_ignore_invisible ls) e in
         either AnswersAgree (peek l p) (peek l q) (found n) (found n)
-        (looked (n + 1) ls (noted ++ display l ∷ []) p left)
-        (looked (n + 1) ls (noted ++ display l ∷ []) q right) (alike-peek f g l parts.0 p q i) refl
-        (alike-looked (n + 1) ls (noted ++ display l ∷ []) parts.1)
+        (looked (n + 1) ls (missed ++ display l ∷ []) p left)
+        (looked (n + 1) ls (missed ++ display l ∷ []) q right) (alike-peek f g l parts.0 p q i) refl
+        (alike-looked (n + 1) ls (missed ++ display l ∷ []) parts.1)
 
     alike-answer : (r : StreamRead) → is_transparent_read r ≡ true
         → AnsweredAlike (read_answer r p left) (read_answer r q right)
@@ -144,10 +146,8 @@ module _ (f g : Laid) where
               (moves_alike a.after b.after j.after)
               (record {
                 place = j.content;
-                scope_span = ap closing_span j.span;
-                kind = refl;
-                is_open = refl;
-                note = refl;
+                same = ap (λ z. new_stream empty_place (closing_span z) (content_of k)) j.span;
+                recorded = refl;
               });
         }
 
@@ -157,14 +157,11 @@ module _ (f g : Laid) where
         alike-into (delimiter_words d) (entry.enter d s.place) (entry.enter d t.place)
         (alike-enter f g s.place t.place i.place d v)
 
-    same-fork : (a b : Option Stream) → BothAlike f g a b
-        → same_scope s.place (stream_place a) ≡ same_scope t.place (stream_place b)
-    same-fork None None j =
-        alike-scope f g s.place t.place i.place empty_place empty_place
-        (alike-empty f g s.place t.place i.place)
-    same-fork None (Some b) j = absurd j
-    same-fork (Some a) None j = absurd j
-    same-fork (Some a) (Some b) j = alike-scope f g s.place t.place i.place a.place b.place j.place
+    same-fork : (m : ℕ) → same_scope s.place (stream_at st m).place
+        ≡ same_scope t.place (stream_at su m).place
+    same-fork m =
+        alike-scope f g s.place t.place i.place (stream_at st m).place (stream_at su m).place
+        (alike-at f g st su m h).place
 
     alike-on_stream : (a : Action) → is_transparent_action a ≡ true
         → StepsAlike (on_stream a st k s) (on_stream a su k t)
@@ -183,23 +180,20 @@ module _ (f g : Laid) where
           (new_stream t.place t.scope_span a_fork) h
           (record {
             place = i.place;
-            scope_span = i.scope_span;
-            kind = refl;
-            is_open = refl;
-            note = refl;
+            same = ap (λ z. new_stream empty_place z.scope_span a_fork) i.same;
+            recorded = refl;
           });
     }
     alike-on_stream (advance m) e =
         either StepsAlike
-        (same_scope s.place (stream_place (slice_get st m)) && not (k == m || is_inside st m k))
-        (same_scope t.place (stream_place (slice_get su m)) && not (k == m || is_inside su m k))
+        (same_scope s.place (stream_at st m).place && not (k == m || is_inside st m k))
+        (same_scope t.place (stream_at su m).place && not (k == m || is_inside su m k))
         _
         _
         (unmoved st (misused OutOfScope))
         (unmoved su (misused OutOfScope))
         (ap₂ (λ x y. x && not (k == m || y))
-        (same-fork (slice_get st m) (slice_get su m) (alike-slice_get f g st su m h))
-        (same-inside f g st su m k h))
+        (same-fork m) (same-inside f g st su m k h))
         (record { answer = refl; state = alike-advanced f g k m st su h })
         (record { answer = refl; state = h })
     alike-on_stream discard e =
@@ -208,42 +202,28 @@ module _ (f g : Laid) where
         record { answer = refl; state = alike-closed f g k st su h }
 
   -- The misuses of streams.
-  same-tested : (without : Bool) (test : Stream → Bool)
-      → ((s t : Stream) → StreamsAlike f g s t → test s ≡ test t) → (a b : Option Stream)
-      → BothAlike f g a b → tested without test a ≡ tested without test b
-  same-tested without test e None None h = refl
-  same-tested without test e None (Some t) h = absurd h
-  same-tested without test e (Some s) None h = absurd h
-  same-tested without test e (Some s) (Some t) h = e s t h
-
   same-any_of : (a b : ℕ → Bool) → ((k : ℕ) → a k ≡ b k) → (ns : List ℕ) → any_of a ns ≡ any_of b ns
   same-any_of a b e [] = refl
   same-any_of a b e (n ∷ ns) = ap₂ (λ x y. x || y) (e n) (same-any_of a b e ns)
 
   module _ (st su : AllStreams) (h : StatesAlike f g st su) where
-    same-test : (without : Bool) (test : Stream → Bool)
-        → ((s t : Stream) → StreamsAlike f g s t → test s ≡ test t) → (k : ℕ)
-        → tested without test (slice_get st k) ≡ tested without test (slice_get su k)
-    same-test without test e k =
-        same-tested without test e (slice_get st k) (slice_get su k) (alike-slice_get f g st su k h)
-
-    of_same_kind : (test : StreamKind → Bool) (k : ℕ) → of_kind test st k ≡ of_kind test su k
-    of_same_kind test k = same-test false (λ s. test s.kind) (λ s t i. ap test i.kind) k
-
     same-kind_misuse : (a : Action) (k : ℕ) → kind_misuse a st k ≡ kind_misuse a su k
-    same-kind_misuse (advance m) k = ap (λ b. cond b None (Some NoFork)) (of_same_kind is_fork m)
-    same-kind_misuse discard k = ap (λ b. cond b None (Some NoFork)) (of_same_kind is_fork k)
-    same-kind_misuse close k = ap (λ b. cond b None (Some NoContent)) (of_same_kind is_content k)
+    same-kind_misuse (advance m) k =
+        ap (λ x. cond (is_fork x.kind) None (Some NoFork)) (alike-at f g st su m h).same
+    same-kind_misuse discard k =
+        ap (λ x. cond (is_fork x.kind) None (Some NoFork)) (alike-at f g st su k h).same
+    same-kind_misuse close k =
+        ap (λ x. cond (is_content x.kind) None (Some NoContent)) (alike-at f g st su k h).same
     same-kind_misuse a k = refl
 
     same-misuse : (c : Command) → misuse c st ≡ misuse c su
     same-misuse c =
         let missing =
         same-any_of (is_unknown st) (is_unknown su)
-        (same-test true (λ s. false) (λ s t i. refl)) (named_by c) in
+        (λ k. ap (λ n. nat_le n k) (alike-length f g st su h)) (named_by c) in
         let over =
         same-any_of (has_ended st) (has_ended su)
-        (same-test false (λ s. not s.is_open) (λ s t i. ap not i.is_open)) (named_by c) in
+        (λ k. ap (λ z. not z.is_open) (alike-at f g st su k h).same) (named_by c) in
         ap
         (λ b. cond b (Some NoStream)
         (cond (any_of (has_ended st) (named_by c)) (Some Spent) (kind_misuse c.action st c.stream)))
@@ -252,13 +232,6 @@ module _ (f g : Laid) where
         (λ b r. cond (any_of (is_unknown su) (named_by c)) (Some NoStream) (cond b (Some Spent) r))
         over
         (same-kind_misuse c.action c.stream)
-
-    alike-step_on : (c : Action) → is_transparent_action c ≡ true → (k : ℕ) (a b : Option Stream)
-        → BothAlike f g a b → StepsAlike (step_on c st k a) (step_on c su k b)
-    alike-step_on c e k None None i = record { answer = refl; state = h }
-    alike-step_on c e k None (Some t) i = absurd i
-    alike-step_on c e k (Some s) None i = absurd i
-    alike-step_on c e k (Some s) (Some t) i = alike-on_stream st su h k s t i c e
 
     either-misuse : (a b : Option Misuse) (x y : Stepped) → a ≡ b → StepsAlike x y
         → StepsAlike (elim a [ Some n ↦ unmoved st (misused n) | None ↦ x ])
@@ -272,6 +245,5 @@ module _ (f g : Laid) where
     alike-step c e =
         let a = c.action in
         let k = c.stream in
-        either-misuse (misuse c st) (misuse c su) (step_on a st k (slice_get st k))
-        (step_on a su k (slice_get su k)) (same-misuse c)
-        (alike-step_on a e k (slice_get st k) (slice_get su k) (alike-slice_get f g st su k h))
+        either-misuse (misuse c st) (misuse c su) _ _ (same-misuse c)
+        (alike-on_stream st su h k (stream_at st k) (stream_at su k) (alike-at f g st su k h) a e)

@@ -5,20 +5,16 @@ use Rattle.std.proofs.lemmas.Bool.{and_parts}
 use Rattle.tok_core.specs.Forest.{Forest}
 use Rattle.tok_buffer.specs.Buffer.{Laid}
 use Rattle.tok_buffer.specs.Ahead.{Leftover}
-use Rattle.tok_buffer.proofs.View.Alike.{alike-start}
+use Rattle.tok_buffer.proofs.View.Alike.{alike-empty, alike-start}
 use Rattle.syn_replay.specs.Agree.{LinesAgree, VerdictsAgree}
 use Rattle.syn_replay.specs.Commands.{Command}
-use Rattle.syn_replay.specs.Reports.{Verdict, accepted}
 use Rattle.syn_replay.specs.Transparent.{is_transparent, all_transparent, DifferInInvisibleGroups}
 use Rattle.syn_replay.specs.Transparent.{InvisibleGroupsDoNotMatter}
-use Rattle.syn_replay.specs.Session.State.{Stream, AllStreams, first_state}
-use Rattle.std.specs.List.{slice_get}
-use Rattle.syn_replay.specs.Session.State.{handed_note}
+use Rattle.syn_replay.specs.Session.State.{AllStreams, first_state, reported}
 use Rattle.syn_replay.specs.Session.Step.{step}
 use Rattle.syn_replay.specs.Session.Walk.{lines_from, last_state, verdict, verdict_on}
 use Rattle.syn_replay.proofs.Views.Steps.{alike-step}
-use Rattle.syn_replay.proofs.Views.Streams.{BothAlike, StatesAlike, span_of, alike-handed}
-use Rattle.syn_replay.proofs.Views.Streams.{alike-slice_get}
+use Rattle.syn_replay.proofs.Views.Streams.{StatesAlike, span_of, alike-reported}
 
 module _ (f g : Laid) where
   lines-agree : (cs : List Command) → all_transparent cs ≡ true → (st su : AllStreams)
@@ -45,22 +41,10 @@ module _ (f g : Laid) where
   left-agree (Some l) (Some k) e =
       let same : l.span ≡ k.span = cc in ap (λ s. covering s s) same
 
-  abbrev verdict_with : AllStreams → Option Stream → Verdict
-  verdict_with st o =
-      elim o [ None ↦ accepted | Some s ↦ verdict_on (handed_note st 0 s) ]
-
   verdicts-agree : (st su : AllStreams) → StatesAlike f g st su
       → VerdictsAgree (verdict st) (verdict su)
   verdicts-agree st su h =
-      go (slice_get st 0) (slice_get su 0) (alike-slice_get f g st su 0 h)
-    where
-      go : (a b : Option Stream) → BothAlike f g a b
-          → VerdictsAgree (verdict_with st a) (verdict_with su b)
-      go None None i = tt
-      go None (Some t) i = absurd i
-      go (Some s) None i = absurd i
-      go (Some s) (Some t) i =
-          left-agree (handed_note st 0 s) (handed_note su 0 t) (alike-handed f g st su h 0 s t i)
+      left-agree (reported st 0) (reported su 0) (alike-reported f g st su h 0)
 
 -- a forest under the buffer number of a walk
 abbrev laid : Forest → Laid
@@ -68,16 +52,11 @@ laid f = record { number = 0; forest = f }
 
 alike-first : (f g : Forest) → DifferInInvisibleGroups f g
     → StatesAlike (laid f) (laid g) (first_state f) (first_state g)
-alike-first f g d = (
-  record {
-    place = alike-start (laid f) (laid g) d.left_filled d.right_filled d.visible;
-    scope_span = refl;
-    kind = refl;
-    is_open = refl;
-    note = refl;
-  },
-  tt,
-)
+alike-first f g d =
+    let begun = alike-start (laid f) (laid g) d.left_filled d.right_filled d.visible in (
+      record { place = begun; same = refl; recorded = refl },
+      alike-empty (laid f) (laid g) _ _ begun,
+    )
 
 -- the walks of two forests that differ only in invisible groups agree
 pub invisible_groups_do_not_matter : InvisibleGroupsDoNotMatter

@@ -1,6 +1,6 @@
 -- Entering a group, and errors, as the steps of a replay.
 use Rattle.std.proofs.Common.{◌≡◌, ◌∙◌, ap, sym, refl, ℕ, List, [], ◌∷◌, ◌++◌, Option, Some, None}
-use Rattle.std.proofs.Common.{Ok, Err}
+use Rattle.std.proofs.Common.{Ok, Err, set}
 use Rattle.std.specs.Prelude.{true, length, IfOk, Result}
 use Rattle.std.specs.declared.alloc.AllocError.{AllocError}
 use Rattle.tok_lexical.specs.declared.delimiter.Delimiter.{Delimiter}
@@ -16,16 +16,15 @@ use Rattle.syn_parse.specs.ErrorWords.{refused_at}
 use Rattle.syn_parse.specs.declared.fault.Fault.{Fault}
 use Rattle.syn_parse.specs.declared.fault.Fault.TheVariants.{Refused, Memory}
 use Rattle.syn_replay.specs.Reports as reports
-use Rattle.syn_replay.specs.Session.State.{AllStreams, at_rest, with_stream, content_of, put, standing}
-use Rattle.std.specs.List.{slice_get}
+use Rattle.syn_replay.specs.Session.State.{AllStreams, parse_state, with_stream, content_of, moved_as, stream_from}
+use Rattle.syn_replay.specs.Session.State.{stream_at}
 use Rattle.syn_replay.specs.Session.State as states
 use Rattle.syn_replay.specs.Session.Step.{into_group}
 use Rattle.tok_buffer.specs.Messages.{first_message}
 use Rattle.syn_replay.specs.Meanings.{IsAnswer}
-use Rattle.syn_replay.specs.Session.Stepping.{Answers, IsStepped}
+use Rattle.syn_replay.specs.Session.Promises.{Answers, IsStepped}
 use Rattle.syn_replay.specs.declared.report.Answer.{Answer}
 use Rattle.syn_replay.proofs.Messages.{first_message-one}
-use Rattle.syn_replay.proofs.Walk.Changes.{changed_alike}
 
 -- an answer of the error that is wanted
 answered-error : (r : Message) (e : List Message) (a : Answer) → e ≡ messages.one_message r
@@ -37,34 +36,34 @@ answered-error r e a h q =
 abbrev pub AreEntered : (Delimiter × DelimSpan × parse.State) → Entered → Type 0
 AreEntered p e = (p.0 ≡ e.delimiter) × AreParts p.1 p.2 e
 
-module _ (st : AllStreams) (n : ℕ) (s : states.Stream) (here : slice_get st n
-    ≡ Some s) (words : List ℕ)
+module _ (st : AllStreams) (n : ℕ) (s : states.Stream) (here : stream_at st n ≡ s)
+    (words : List ℕ)
   where
     pub entered-value : (x : Option Entered) (d : Delimiter) (span : DelimSpan)
         (content t : parse.State)
-        → Enters AreEntered x (refused_at (at_rest s) words) (at_rest s) (Ok (d, span, content)) t
+        → Enters AreEntered x (refused_at (parse_state s) words) (parse_state s)
+        (Ok (d, span, content)) t
         → (reports.entered (length st) d (whole_span span) ≡ (into_group st n s words x).answer)
-        × (with_stream st n (put t) ++ standing content (content_of n) true ∷ []
+        × (with_stream st n (moved_as t) ++ stream_from content (content_of n) true ∷ []
         ≡ (into_group st n s words x).state)
     entered-value None d span content t h = absurd h.0
     entered-value (Some e) d span content t h = (
       ap (λ z. reports.entered (length st) z (whole_span span)) h.0.0
           ∙ ap (reports.entered (length st) e.delimiter) h.0.1.0,
-      ap (λ u. with_stream st n (put u) ++ standing content (content_of n) true ∷ []) h.1
-          ∙ ap (λ c. with_stream st n (put (after_group e (at_rest s)))
-          ++ standing c (content_of n) true ∷ []) h.0.1.1
-          ∙ ap (λ us. us ++ standing (parse.content_of e) (content_of n) true ∷ [])
-          (changed_alike st n s (put (after_group e (at_rest s))) (states.moved_to e.after) here
-          refl),
+      ap (λ u. with_stream st n (moved_as u) ++ stream_from content (content_of n) true ∷ []) h.1
+          ∙ ap (λ c. with_stream st n (moved_as (after_group e (parse_state s)))
+          ++ stream_from c (content_of n) true ∷ []) h.0.1.1
+          ∙ ap (λ z. set st n (moved_as (after_group e (parse_state z)) (stream_at st n))
+          ++ stream_from (parse.content_of e) (content_of n) true ∷ []) (sym here),
     )
 
     pub entered-error : (x : Option Entered) (f : Fault) (t : parse.State)
         (result : Result Answer AllocError)
-        → Enters AreEntered x (refused_at (at_rest s) words) (at_rest s) (Err f) t
+        → Enters AreEntered x (refused_at (parse_state s) words) (parse_state s) (Err f) t
         → Answers f result
         → IfOk result (λ a. IsStepped a st (into_group st n s words x))
     entered-error None (Refused e) t (Ok a) h q =
-        (answered-error (refused_at (at_rest s) words) e a h.0 q, refl)
+        (answered-error (refused_at (parse_state s) words) e a h.0 q, refl)
     entered-error None (Refused e) t (Err m) h q = tt
     entered-error None (Memory e) t (Ok a) h q = absurd q
     entered-error None (Memory e) t (Err m) h q = tt

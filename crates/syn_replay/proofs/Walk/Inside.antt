@@ -1,7 +1,7 @@
 -- Which streams are inside another.
-use Rattle.std.proofs.Common.{◌≡◌, ◌∙◌, sym, ap, refl, ℕ, zero, suc, ◌+◌, ◌-◌, ◌<◌, Bool, true}
+use Rattle.std.proofs.Common.{rules, ◌≡◌, ◌∙◌, sym, ap, refl, ℕ, zero, suc, ◌+◌, ◌-◌, ◌<◌, Bool, true}
 use Rattle.std.proofs.Common.{false, List, get_or, length, Option, Some, None, arith}
-use Rattle.std.proofs.lemmas.Bool.{ne_eqb, eq-eqb, or_left}
+use Rattle.std.proofs.lemmas.Bool.{ne_eqb}
 use Rattle.std.specs.Prelude.{◌==◌, ◌||◌}
 use Rattle.syn_replay.specs.Session.State.{AllStreams, content_of, kind_at}
 use Rattle.syn_replay.specs.Session.State.{is_entered_within, is_inside}
@@ -9,22 +9,14 @@ use Rattle.syn_replay.specs.Session.Links.{AreListed}
 use Rattle.syn_replay.specs.Session.Stream.{stream_kind, state_of_list}
 use Rattle.syn_replay.specs.declared.session.stream.Stream.{Stream}
 use Rattle.syn_replay.proofs.Walk.Links.{parent_below}
-use Rattle.syn_replay.proofs.Walk.Tracks.{stream_there, length-state}
-use Rattle.syn_replay.proofs.Walk.Changes.{kind_seen, or_nobody}
+use Rattle.syn_replay.proofs.Walk.Streams.{stream_there, length-state}
 
 -- one parent up
 pub within_parent : (depth : ℕ) (st : AllStreams) (outer p : ℕ) → 0 < depth
     → is_entered_within depth st outer (content_of p)
     ≡ ((p == outer) || is_entered_within (depth - 1) st outer (kind_at st p))
 within_parent zero st outer p h = absurd (omega arith)
-within_parent (suc depth) st outer p h =
-    let q : depth ≡ suc depth - 1 = omega arith in
-    ap (λ z. (p == outer) || is_entered_within z st outer (kind_at st p)) q
-
-pub within_itself : (depth : ℕ) (st : AllStreams) (outer p : ℕ) → 0 < depth → p ≡ outer
-    → is_entered_within depth st outer (content_of p) ≡ true
-within_itself depth st outer p h e =
-    within_parent depth st outer p h ∙ or_left (p == outer) _ (eq-eqb p outer e)
+within_parent (suc depth) st outer p h = search rules
 
 -- a fork is inside none, nor is the outermost stream
 any_fork : (depth : ℕ) (st : AllStreams) (outer : ℕ) (f : Bool) (o : Option ℕ)
@@ -50,7 +42,7 @@ module _ (xs : List Stream) (outer : ℕ) (linked : AreListed xs) where
       let st = state_of_list xs in
       sym (any_fork depth st outer x.is_fork x.parent)
       ∙ ap (is_entered_within depth st outer)
-      (sym (kind_seen st i ∙ ap (λ o. (or_nobody o).kind) (stream_there xs i x e h)))
+      (sym (ap (λ s. s.kind) (stream_there xs i x e h)))
 
   pub look_first : (i : ℕ) (x : Stream) → x ≡ get_or xs i x → i < length xs
       → LeftToLook xs outer x.parent (is_inside (state_of_list xs) outer i)

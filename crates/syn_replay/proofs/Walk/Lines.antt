@@ -1,108 +1,183 @@
--- The line of a read on an open stream.
-use Rattle.std.proofs.Common.{◌≡◌, ◌∙◌, ap, sym, refl, ℕ, true, false, Option, Some, None, Ok, Err}
+-- The line of a read.
+use Rattle.std.proofs.Common.{◌≡◌, ◌∙◌, ap, ap₂, sym, refl, ℕ, Bool, true, false, [], ◌∷◌}
+use Rattle.std.proofs.Common.{length, set, Option, Some, None, Ok, Err, arith}
+use Rattle.std.proofs.lemmas.Bool.{both_ways, lt-leb}
+use Rattle.std.proofs.lemmas.List.{get_or-set_same, length-set}
 use Rattle.std.specs.Prelude.{◌||◌, not, cond}
-use Rattle.std.specs.List.{slice_get}
-use Rattle.std.specs.Option.{option_map}
-use Rattle.tok_buffer.specs.Place.{Place}
+use Rattle.std.specs.Option.{option_or}
 use Rattle.syn_parse.specs.State as parse
 use Rattle.syn_parse.specs.State.{moved}
 use Rattle.syn_parse.specs.declared.fault.Fault.TheVariants as fault
 use Rattle.tok_buffer.specs.declared.error.Error.{Error}
 use Rattle.syn_replay.specs.Commands.{Action, Command, StreamRead, on, read_answer}
 use Rattle.syn_replay.specs.Commands as commands
-use Rattle.syn_replay.specs.Meanings.{IsAnswer, IsPlain, line_of, position_of}
+use Rattle.syn_replay.specs.Meanings.{IsAnswer, position_of}
+use Rattle.syn_replay.specs.Reports as reports
 use Rattle.syn_replay.specs.Reports.{missing, misused}
 use Rattle.syn_replay.specs.Session.Reading.{IsDone, is_read}
-use Rattle.syn_replay.specs.Session.State.{AllStreams, Stream, at_rest, moved_to, put, with_stream}
-use Rattle.syn_replay.specs.Session.State as states
-use Rattle.syn_replay.specs.Session.Step.{line, misuse, moves, position_in, unmoved, step}
-use Rattle.syn_replay.specs.Session.Step.{step_on, tested}
+use Rattle.syn_replay.specs.Session.State.{AllStreams, Stream, parse_state, moved_to, printed_position}
+use Rattle.syn_replay.specs.Session.State.{is_open_at, kind_at, moved_as, no_stream, stream_at}
+use Rattle.syn_replay.specs.Session.State.{with_stream}
+use Rattle.syn_replay.specs.Session.Step.{Stepped, any_of, has_ended, is_fork, is_unknown, kind_misuse}
+use Rattle.syn_replay.specs.Session.Step.{misuse, named_by, on_stream, other_named, position_in, step}
+use Rattle.syn_replay.specs.Session.Step.{stream_misuse, stream_position, unmoved, with_other}
+use Rattle.syn_replay.specs.Session.Promises.{IsLine, IsOpen, IsStepped, IsStream}
+use Rattle.syn_replay.specs.Session.Stream.{IsReadLine}
 use Rattle.syn_replay.specs.declared.report.Answer.{Answer}
 use Rattle.syn_replay.specs.declared.report.Answer.TheVariants as answer
 use Rattle.syn_replay.specs.declared.report.Line.{Line}
 use Rattle.syn_replay.specs.declared.report.Misuse.{Misuse}
 use Rattle.syn_replay.specs.declared.report.Misuse.TheVariants.{NoStream, Spent}
 use Rattle.syn_replay.specs.declared.report.Position.{Position}
-use Rattle.syn_replay.proofs.Walk.Changes.{changed_alike, changed_at}
+use Rattle.syn_replay.proofs.Walk.Changes.{open_within}
 
--- what a line of the program promises, by the command that its own stands for
-abbrev pub IsLineOf : Line → AllStreams → AllStreams → Command → Type 0
-IsLineOf l new old c =
-    (line_of l ≡ line c old) × IsPlain l.answer × (new ≡ (step c old).state)
+-- an answer and the position after it are the line of a read
+module _ (s new : Stream) (q : Position) (t : parse.State) (is : new ≡ moved_as t s)
+    (stands : position_of q ≡ printed_position t.place) where
+  pub line_read : (r : StreamRead) (x : Answer) → IsAnswer x (read_answer r s.place s.scope_span).0
+      → t ≡ moved (read_answer r s.place s.scope_span).1 (parse_state s)
+      → IsReadLine (commands.read r) (record { answer = x; position = q }) s new
+  line_read r x same left = (
+    ap₂ (λ z w. record { answer = z; position = w }) same.0
+        (stands ∙ ap (λ u. printed_position u.place) left),
+    same.1,
+    is ∙ ap (λ u. moved_as u s) left,
+  )
 
--- the misuse of a read, by what is there
-abbrev pub misread : Option Stream → Option Misuse
-misread o =
-    cond (tested true (λ s. false) o || false) (Some NoStream)
-    (cond (tested false (λ s. not s.is_open) o || false) (Some Spent) None)
+  pub line_answered : (a : Action) (x : Answer) → IsDone a (parse_state s) (Ok x) t
+      → IsReadLine a (record { answer = x; position = q }) s new
+  line_answered (commands.read r) x h = line_read r x h.0 h.1
+  line_answered a x h = h
 
-module _ (n : ℕ) (st : AllStreams) (s : Stream) (here : slice_get st n ≡ Some s)
-    (fits : misread (slice_get st n) ≡ None) where
-  read_steps : (r : StreamRead)
-      → step (on n (commands.read r)) st ≡ moves st n (read_answer r s.place s.scope_span)
-  read_steps r =
-      ap (λ m. elim m [
-        | Some m ↦ unmoved st (misused m)
-        | None ↦ step_on (commands.read r) st n (slice_get st n)
-      ]) fits ∙ ap (step_on (commands.read r) st n) here
+  pub line_refused : (a : Action) (e : Error) → IsDone a (parse_state s) (Err (fault.Refused e)) t
+      → IsReadLine a (record { answer = answer.Refused e; position = q }) s new
+  line_refused (commands.read r) e h = line_read r (answer.Refused e) h.0 h.1
+  line_refused a e h = h
 
-  read_stands : (r : StreamRead) (p : Place)
-      → position_in (on n (commands.read r)) st (with_stream st n (moved_to p))
-      ≡ states.printed_position p
-  read_stands r p =
-      let after = slice_get (with_stream st n (moved_to p)) n in
-      ap (λ o. cond (tested true (λ s. false) o || false) missing
-      (elim after [ None ↦ missing | Some s ↦ states.printed_position s.place ])) here
-      ∙ ap (λ o. elim o [ None ↦ missing | Some s ↦ states.printed_position s.place ])
-      (changed_at st n (moved_to p) ∙ ap (option_map (moved_to p)) here)
+abbrev misused_or : AllStreams → Option Misuse → Stepped → Stepped
+misused_or st o r = elim o [ Some m ↦ unmoved st (misused m) | None ↦ r ]
 
-  pub line_made : (r : StreamRead) (x : Answer) (q : Position) (t : parse.State) (new : AllStreams)
-      → IsAnswer x (read_answer r s.place s.scope_span).0
-      → t ≡ moved (read_answer r s.place s.scope_span).1 (at_rest s)
-      → new ≡ with_stream st n (put t) → position_of q ≡ states.printed_position t.place
-      → IsLineOf (record { answer = x; position = q }) new st (on n (commands.read r))
-  line_made r x q t new is left e stands =
-      let c = on n (commands.read r) in
-      let p = (read_answer r s.place s.scope_span).1 in
-      let steps = read_steps r in
-      let there : position_of q ≡ position_in c st (with_stream st n (moved_to p)) =
-      stands ∙ ap (λ u. states.printed_position u.place) left ∙ sym (read_stands r p) in
-      let made : new ≡ with_stream st n (moved_to p) =
-      e ∙ ap (λ u. with_stream st n (put u)) left
-      ∙ changed_alike st n s (put (moved p (at_rest s))) (moved_to p) here refl in (
-        ap (λ z. record { answer = z; position = position_of q }) is.0
-            ∙ ap (λ z. record {
-              answer = (read_answer r s.place s.scope_span).0;
-              position = z;
-            }) there
-            ∙ ap (λ z. record { answer = z.answer; position = position_in c st z.state })
-            (sym steps),
-        is.1,
-        made ∙ ap (λ z. z.state) (sym steps),
+-- a line of an answer and a position that are those of a step
+module _ (c : Command) (st after : AllStreams) (x : Answer) (q : Position) (r : Stepped)
+    (is : step c st ≡ r) (same : IsAnswer x r.answer) (then : after ≡ r.state) where
+  pub line_stepped : position_of q ≡ position_in c st after
+      → IsLine (record { answer = x; position = q }) after st c
+  line_stepped at =
+      let after_is = then ∙ ap (λ z. z.state) (sym is) in (
+        ap₂ (λ z w. record { answer = z; position = w }) (same.0 ∙ ap (λ z. z.answer) (sym is))
+            (at ∙ ap (position_in c st) after_is),
+        same.1,
+        after_is,
       )
 
-module _ (n : ℕ) (st : AllStreams) (s : Stream) (here : slice_get st n ≡ Some s) where
-  pub answer_line : (a : Action) → is_read a ≡ true → misuse (on n a) st ≡ None → (x : Answer)
-      (q : Position) (t : parse.State) (new : AllStreams) → IsDone a (at_rest s) (Ok x) t
-      → new ≡ with_stream st n (put t) → position_of q ≡ states.printed_position t.place
-      → IsLineOf (record { answer = x; position = q }) new st (on n a)
-  answer_line (commands.read r) is fits x q t new h e stands =
-      line_made n st s here fits r x q t new h.0 h.1 e stands
-  answer_line (commands.enter w) is fits x q t new h e stands = cc
-  answer_line commands.fork is fits x q t new h e stands = cc
-  answer_line (commands.advance f) is fits x q t new h e stands = cc
-  answer_line commands.discard is fits x q t new h e stands = cc
-  answer_line commands.close is fits x q t new h e stands = cc
+-- a command that names one stream
+module _ (n : ℕ) (st : AllStreams) (a : Action) (alone : other_named a ≡ None) where
+  named : named_by (on n a) ≡ n ∷ []
+  named = ap (with_other n) alone
 
-  pub error_line : (a : Action) → is_read a ≡ true → misuse (on n a) st ≡ None → (m : Error)
-      (q : Position) (t : parse.State) (new : AllStreams)
-      → IsDone a (at_rest s) (Err (fault.Refused m)) t
-      → new ≡ with_stream st n (put t) → position_of q ≡ states.printed_position t.place
-      → IsLineOf (record { answer = answer.Refused m; position = q }) new st (on n a)
-  error_line (commands.read r) is fits m q t new h e stands =
-      line_made n st s here fits r (answer.Refused m) q t new h.0 h.1 e stands
-  error_line (commands.enter w) is fits m q t new h e stands = cc
-  error_line commands.fork is fits m q t new h e stands = cc
-  error_line (commands.advance f) is fits m q t new h e stands = cc
-  error_line commands.discard is fits m q t new h e stands = cc
-  error_line commands.close is fits m q t new h e stands = cc
+  one_misuse : misuse (on n a) st ≡ option_or (stream_misuse st n) (kind_misuse a st n)
+  one_misuse =
+      ap (λ ns. cond (any_of (is_unknown st) ns) (Some NoStream)
+      (cond (any_of (has_ended st) ns) (Some Spent) (kind_misuse a st n))) named
+      ∙ go (is_unknown st n) (has_ended st n)
+    where
+      go : (u e : Bool)
+          → cond (u || false) (Some NoStream) (cond (e || false) (Some Spent) (kind_misuse a st n))
+          ≡ option_or (cond u (Some NoStream) (cond e (Some Spent) None)) (kind_misuse a st n)
+      go true e = refl
+      go false true = refl
+      go false false = refl
+
+  steps_by : (o : Option Misuse) → option_or (stream_misuse st n) (kind_misuse a st n) ≡ o
+      → step (on n a) st ≡ misused_or st o (on_stream a st n (stream_at st n))
+  steps_by o e = ap (λ z. misused_or st z (on_stream a st n (stream_at st n))) (one_misuse ∙ e)
+
+  position_is : (after : AllStreams) (p : reports.Position) → stream_position after n ≡ p
+      → (is_unknown st n ≡ true → p ≡ missing) → position_in (on n a) st after ≡ p
+  position_is after p e none =
+      ap (λ ns. cond (any_of (is_unknown st) ns) missing (stream_position after n)) named
+      ∙ go (is_unknown st n) none
+    where
+      go : (u : Bool) → (u ≡ true → p ≡ missing)
+          → cond (u || false) missing (stream_position after n) ≡ p
+      go true h = sym (h refl)
+      go false h = e
+
+  -- the stream is missing, spent or of another kind
+  pub line_misused : (m : Misuse) (l : Line)
+      → option_or (stream_misuse st n) (kind_misuse a st n) ≡ Some m
+      → l.answer ≡ answer.Misused m → position_of l.position ≡ stream_position st n
+      → IsLine l st st (on n a)
+  line_misused m l e same at =
+      rw same
+      (line_stepped (on n a) st st (answer.Misused m) l.position (unmoved st (misused m))
+      (steps_by (Some m) e) (refl, tt) refl
+      (at ∙ sym (position_is st (stream_position st n) refl
+      (ap (λ b. cond b missing (printed_position (stream_at st n).place))))))
+
+  -- it is open and fits
+  pub line_done : (s : Stream) → IsOpen st n s → kind_misuse a st n ≡ None → (x : Answer)
+      (l : Line) (after : AllStreams) → l.answer ≡ x → IsAnswer x (on_stream a st n s).answer
+      → after ≡ (on_stream a st n s).state → position_of l.position ≡ stream_position after n
+      → IsLine l after st (on n a)
+  line_done s (here, is_open) fits x l after is same then at =
+      let opened : is_open_at st n ≡ true = ap (λ z. z.is_open) here ∙ is_open in
+      let known : is_unknown st n ≡ false = lt-leb (length st) n (open_within st n opened) in
+      rw is
+      (line_stepped (on n a) st after x l.position (on_stream a st n s)
+      (steps_by None
+      (ap₂ (λ u e. option_or (cond u (Some NoStream) (cond (not e) (Some Spent) None))
+      (kind_misuse a st n)) known opened ∙ fits)
+      ∙ ap (on_stream a st n) here) same then
+      (at ∙ sym (position_is after (stream_position after n) refl
+      (λ none. absurd (both_ways (is_unknown st n) known none)))))
+
+-- a read on a stream of several
+module _ (n : ℕ) (st : AllStreams) where
+  -- the stream is missing or spent
+  pub line_missed : (a : Action) → is_read a ≡ true → (m : Misuse) (q : Position)
+      → stream_misuse st n ≡ Some m → position_of q ≡ stream_position st n
+      → IsLine (record { answer = answer.Misused m; position = q }) st st (on n a)
+  line_missed (commands.read r) is m q e at =
+      line_misused n st (commands.read r) refl m
+      (record { answer = answer.Misused m; position = q }) (ap (λ o. option_or o None) e) refl at
+  line_missed a is m q e at = cc
+
+  -- it is open
+  pub line_there : (a : Action) (s new : Stream) (l : Line) (after : AllStreams) → IsOpen st n s
+      → IsReadLine a l s new → after ≡ with_stream st n (λ _. new) → IsLine l after st (on n a)
+  line_there (commands.read r) s new l after (here, is_open) (same, plain, moved_so) e =
+      let (said, p) = read_answer r s.place s.scope_span in
+      let moved_here : new ≡ moved_to p (stream_at st n) = moved_so ∙ ap (moved_to p) (sym here) in
+      let then : after ≡ with_stream st n (moved_to p) = e ∙ ap (set st n) moved_here in
+      let within = open_within st n (ap (λ z. z.is_open) here ∙ is_open) in
+      let u = moved_to p (stream_at st n) in
+      let known : is_unknown after n ≡ false =
+      lt-leb (length after) n (omega (arith, within, ap length then, length-set st n u)) in
+      let at : (stream_at after n).place ≡ p =
+      ap (λ z. (stream_at z n).place) then
+      ∙ ap (λ z. z.place) (get_or-set_same st n u no_stream within) in
+      line_done n st (commands.read r) refl s (here, is_open) refl l.answer l after refl
+      (ap (λ z. z.answer) same, plain) then
+      (ap (λ z. z.position) same
+      ∙ sym (ap₂ (λ b q. cond b missing (printed_position q)) known at))
+  line_there a s new l after h same e = absurd same
+
+-- a stream advances to another: both are there and fit
+pub advance_fit : (n f : ℕ) (st : AllStreams) (s x : Stream) → IsStream st n s → IsStream st f x
+    → s.is_open ≡ true → x.is_open ≡ true → is_fork x.kind ≡ true → (y : Answer) (l : Line)
+    (after : AllStreams) → l.answer ≡ y
+    → IsStepped y after (on_stream (commands.advance f) st n (stream_at st n))
+    → position_of l.position ≡ stream_position after n
+    → IsLine l after st (on n (commands.advance f))
+advance_fit n f st s x (known, here) (other, there_is) o u g y l after is (same, then) at =
+    let advances = on n (commands.advance f) in
+    let done = on_stream (commands.advance f) st n (stream_at st n) in
+    let opened : is_open_at st n ≡ true = ap (λ z. z.is_open) here ∙ o in
+    let fork_open : is_open_at st f ≡ true = ap (λ z. z.is_open) there_is ∙ u in
+    let fork : is_fork (kind_at st f) ≡ true = ap (λ z. is_fork z.kind) there_is ∙ g in
+    let fits : misuse advances st ≡ None = cc in
+    rw is (line_stepped advances st after y l.position done
+    (ap (λ z. misused_or st z done) fits) same then
+    (at ∙ ap₂ (λ v w. cond (v || (w || false)) missing (stream_position after n)) (sym known)
+    (sym other)))

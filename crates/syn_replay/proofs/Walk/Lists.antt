@@ -36,7 +36,7 @@ use Rattle.syn_punctuated.specs.declared.punctuated.Punctuated.{Punctuated}
 use Rattle.syn_replay.specs.Commands as commands
 use Rattle.syn_replay.specs.Commands.{listed_to}
 use Rattle.syn_replay.specs.Reports as reports
-use Rattle.syn_replay.specs.Kinds.{Kind, read, kind_message}
+use Rattle.syn_replay.specs.Kinds.{Kind, read, kind_missing}
 use Rattle.syn_replay.specs.Session.Reading.{IsRead, ReadsPieces, AfterPieces, GivesAnswer}
 use Rattle.syn_replay.specs.Session.Reading.{LeavesAt}
 use Rattle.syn_replay.specs.Session.Reading.{pair_parts, punct_pieces}
@@ -85,7 +85,7 @@ in_scope s t e = ap (λ (u : State). u.scope_span) e
 -- Calls of the value parser read tokens of this kind, as long as the parser is one that does.
 module _ {F : Type 0} (k n : ℕ) (kind : Kind) (reads : ValueCall F (Vec Piece)) (Fits : F → Type 0)
     (tells : (f g : F) (s t : State) (r : Result (Vec Piece) Fault) → Fits f → reads f s r g t
-    → ReadsPieces (read kind s.place) (kind_message kind s) s r t × Fits g) where
+    → ReadsPieces (read kind s.place) (kind_missing kind s) s r t × Fits g) where
   abbrev word : List ℕ
   word = punctuation_word k n
 
@@ -221,8 +221,8 @@ module _ {F : Type 0} (k n : ℕ) (kind : Kind) (reads : ValueCall F (Vec Piece)
   -- a value that is refused
   concludes_no_value : (s : State) (o : ListOutcome) (turns : List T) (f : Fault)
       (r : Result (Punctuated (Vec Piece) (Punctuation k n)) Fault) (t : State) (w : Message)
-      → ReadsPieces (read kind s.place) (kind_message kind s) s (Err f) t → r ≡ Err f
-      → kind_message kind s ≡ w
+      → ReadsPieces (read kind s.place) (kind_missing kind s) s (Err f) t → r ≡ Err f
+      → kind_missing kind s ≡ w
       → (read kind s.place ≡ None → o ≡ refused_at w s.place) → Concludes s o turns r t
   concludes_no_value s o turns (Refused e) r t w h q same i =
       rw q (
@@ -317,7 +317,7 @@ module _ {F : Type 0} (k n : ℕ) (kind : Kind) (reads : ValueCall F (Vec Piece)
     stuck_refuses m p q r ts us a b c d e = rw (a, b, c, d, e) refl
 
     none : (m : ℕ) (p : Place) → is_over rule p ≡ false → read kind p ≡ None
-        → rounds scope rule (suc m) p ≡ refused_at (kind_message kind (fresh p scope)) p
+        → rounds scope rule (suc m) p ≡ refused_at (kind_missing kind (fresh p scope)) p
     none m p a b = rw (a, b) refl
 
     at_the_end : (m : ℕ) (p : Place) → is_over rule p ≡ true
@@ -391,9 +391,9 @@ module _ {F : Type 0} (k n : ℕ) (kind : Kind) (reads : ValueCall F (Vec Piece)
         )
     ending_concludes m turns f s t (Err x) fit e (bare v g b i h) = absurd h
     ending_concludes m turns f s t r fit e (value_refused x g b q) =
-        concludes_no_value s _ turns x r t (kind_message kind (fresh s.place scope))
+        concludes_no_value s _ turns x r t (kind_missing kind (fresh s.place scope))
         (tells f g s t (Err x) fit b.1).0 q
-        (message_there kind s ∙ ap (λ z. kind_message kind (fresh s.place z)) e)
+        (message_there kind s ∙ ap (λ z. kind_missing kind (fresh s.place z)) e)
         (λ h. none m s.place (begins rule s.place b.0) h)
     ending_concludes m turns f s t r fit e (separator_refused v g u x b i h q) =
         let w = value f g s u v fit b.1 in
@@ -447,7 +447,7 @@ module _ {F : Type 0} (k n : ℕ) (kind : Kind) (reads : ValueCall F (Vec Piece)
       → GivesAnswer (listed_to o).0 (Ok (answer.List ps))
       × LeavesAt (Ok (answer.List ps)) t (moved (listed_to o).1 s)
   told-answer s t o list ps h e = (
-    (ap reports.listed e ∙ ap (λ z. (listed_to z).0) (sym h.0), tt),
+    (ap reports.list e ∙ ap (λ z. (listed_to z).0) (sym h.0), tt),
     h.1 ∙ ap (λ z. moved (listed_to z).1 s) (sym h.0),
   )
 

@@ -11,7 +11,7 @@ use Rattle.syn_parse.specs.declared.fault.Fault.{Fault}
 use Rattle.syn_parse.specs.declared.fault.Fault.TheVariants.{Refused, Memory}
 use Rattle.syn_replay.specs.Commands.{answered_by}
 use Rattle.syn_replay.specs.Reports as reports
-use Rattle.syn_replay.specs.Kinds.{Kind, read, kind_message}
+use Rattle.syn_replay.specs.Kinds.{Kind, read, kind_missing}
 use Rattle.tok_buffer.specs.Messages.{first_message}
 use Rattle.syn_replay.specs.Meanings.{IsAnswer}
 use Rattle.syn_replay.specs.Session.Reading.{AfterPieces, GivesAnswer, IsErrorAnswer, LeavesAt}
@@ -24,19 +24,19 @@ use Rattle.syn_replay.proofs.Messages.{first_message-one, message_there}
 module _ (kind : Kind) (s : parse.State) where
   abbrev pub parsed_by : Option (List Tree × Place) → reports.Answer × Place
   parsed_by x =
-      answered_by (λ ts. reports.pieces (pieces_of ts)) (kind_message kind
+      answered_by (λ ts. reports.read (pieces_of ts)) (kind_missing kind
       (fresh s.place s.scope_span))
       s.place x
 
   pub error_parsed : (t : parse.State) (f : Fault)
-      → ReadsPieces (read kind s.place) (kind_message kind s) s (Err f) t
+      → ReadsPieces (read kind s.place) (kind_missing kind s) s (Err f) t
       → GivesAnswer (parsed_by (read kind s.place)).0 (Err f)
       × LeavesAt (Err f) t (moved (parsed_by (read kind s.place)).1 s)
   error_parsed t (Memory e) h = (tt, tt)
   error_parsed t (Refused e) (none, is, left) =
       let made = is ∙ ap messages.one_message (message_there kind s) in
       let same =
-      ap first_message made ∙ first_message-one (kind_message kind (fresh s.place s.scope_span)) in
+      ap first_message made ∙ first_message-one (kind_missing kind (fresh s.place s.scope_span)) in
       subst (λ x. IsErrorAnswer e (parsed_by x).0 × (t ≡ moved (parsed_by x).1 s)) (sym none)
       ((ap reports.refused same, made ∙ ap messages.one_message (sym same)), left)
 
@@ -47,4 +47,4 @@ module _ (kind : Kind) (s : parse.State) where
       × (t ≡ moved (parsed_by (read kind s.place)).1 s)
   pieces_parsed t ps (r, is, made, left) =
       subst (λ x. IsAnswer (answer.Read ps) (parsed_by x).0 × (t ≡ moved (parsed_by x).1 s))
-      (sym is) ((ap reports.pieces made, tt), left)
+      (sym is) ((ap reports.read made, tt), left)

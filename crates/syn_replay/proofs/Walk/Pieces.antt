@@ -1,7 +1,7 @@
 -- The pieces of what was read.
 use Rattle.std.proofs.Common.{◌≡◌, ◌∙◌, sym, ap, subst, refl, ℕ, ◌<◌, ◌⊎◌, inl, inr, Bool, true}
 use Rattle.std.proofs.Common.{false, List, [], ◌∷◌, ◌++◌, length, map, arith, Option, Some, None}
-use Rattle.std.proofs.Common.{Ok, Err, eqb-true}
+use Rattle.std.proofs.Common.{Ok, eqb-true}
 use Rattle.std.proofs.lemmas.Bool.{cond-true, eq-eqb, and_parts}
 use Rattle.std.proofs.lemmas.List.{append-nil, append_assoc, map-append}
 use Rattle.std.specs.Prelude.{◌==◌, not, cond, encode_utf8}
@@ -21,11 +21,9 @@ use Rattle.syn_parse.specs.Parses.{AreSpans, PunctuationParses, ascii_chars}
 use Rattle.syn_parse.specs.Reads.{Reads, ReadsAtOnce}
 use Rattle.syn_parse.specs.State.{State}
 use Rattle.syn_parse.specs.ErrorWords.{punctuation_message}
-use Rattle.syn_parse.specs.declared.fault.Fault.{Fault}
-use Rattle.syn_parse.specs.declared.fault.Fault.TheVariants.{Refused, Memory}
 use Rattle.syn_replay.specs.Reports as reports
 use Rattle.syn_replay.specs.Turns.{pieces_of}
-use Rattle.syn_replay.specs.Session.Reading.{ArePieces, AfterPieces, ReadsPieces, punct_pieces}
+use Rattle.syn_replay.specs.Session.Reading.{ArePieces, AfterPieces, punct_pieces}
 use Rattle.syn_replay.specs.Meanings.{piece_of}
 use Rattle.syn_replay.specs.declared.report.Piece.{Piece}
 
@@ -51,14 +49,6 @@ pub value-pieces : {T : Type 0} (trees_of : T
     → ArePieces (trees_of v) ps → AfterPieces x s ps t
 value-pieces trees_of words s x v ps t h made =
     read-pieces (λ v ts. ts ≡ trees_of v) words s x v ps t (λ ts m. made ∙ ap pieces_of (sym m)) h
-
-pub value-pieces-at-once : {T : Type 0} (trees_of : T
-    → List Tree) (words : Message) (s : State) (x : Option (List Tree × Place)) (v : T)
-    (ps : Vec Piece) (t : State) → ReadsAtOnce (λ v ts. ts ≡ trees_of v) x words s (Ok v) t
-    → ArePieces (trees_of v) ps → AfterPieces x s ps t
-value-pieces-at-once trees_of words s x v ps t h made =
-    at-once-pieces (λ v ts. ts ≡ trees_of v) words s x v ps t (λ ts m _. made
-    ∙ ap pieces_of (sym m)) h
 
 -- a punct of a character
 record IsPunctOf (c : ℕ) (t : Tree) : Type 0 where
@@ -190,21 +180,6 @@ module _ (n : ℕ) (text : List ℕ) (same : sized n text ≡ text) (ascii : cha
       made ∙ ap (punct_pieces text) m
       ∙ sym (punctuation-pieces text s.place (ts, t.place) e))
       (subst Q same (subst P own_chars h))
-
-  -- one that is refused
-  pub sized-refused : (s : State) (f : Fault) (t : State)
-      → PunctuationParses (λ v. v) (ascii_chars (sized n text)) (sized n text) s (Err f) t
-      → ReadsPieces (read_punctuation text s.place) (punctuation_message text s) s (Err f) t
-  sized-refused s f t h =
-      let P : List ℕ → Type 0 = λ z. PunctuationParses (λ v. v) z (sized n text) s (Err f) t in
-      let Q : List ℕ → Type 0 = λ z. PunctuationParses (λ v. v) text z s (Err f) t in
-      refusal_reads (read_punctuation text s.place) f (subst Q same (subst P own_chars h)) where
-        refusal_reads : (x : Option (List Tree × Place)) (f : Fault)
-            → ReadsAtOnce (λ v. AreSpans v) x (punctuation_message text s) s (Err f) t
-            → ReadsPieces x (punctuation_message text s) s (Err f) t
-        refusal_reads None (Refused e) h = (refl, h.0, h.1)
-        refusal_reads x (Memory e) h = tt
-        refusal_reads (Some r) (Refused e) h = absurd h
 
 -- a text of the length that is asked for, and one of at most one byte
 pub sized_same : (n : ℕ) (text : List ℕ) → length text ≡ n → sized n text ≡ text

@@ -1,24 +1,20 @@
 -- A walk accepts if and only if nothing is left over in the streams that count.
-use Rattle.std.specs.Prelude.{◌≡◌, ℕ, Bool, true, false, List, ◌∷◌, Some, None}
+use Rattle.std.specs.Prelude.{◌≡◌, ℕ, Bool, true, false, List, ◌∷◌, None}
 use Rattle.tok_core.specs.Forest.{Forest}
 use Rattle.tok_buffer.specs.Ahead.{leftover}
 use Rattle.tok_buffer.specs.Place.{Place}
 use Rattle.syn_replay.specs.Commands.{Action, Command, on, advance, discard}
 use Rattle.syn_replay.specs.Reports.{done, Verdict, accepted}
-use Rattle.syn_replay.specs.Session.State.{Stream, content_of, AllStreams, first_state}
-use Rattle.std.specs.List.{slice_get}
-use Rattle.syn_replay.specs.Session.State.{closed_inside}
-use Rattle.syn_replay.specs.Session.Step.{has_ended, step}
+use Rattle.syn_replay.specs.Session.State.{content_of, AllStreams, first_state, is_open_at}
+use Rattle.syn_replay.specs.Session.State.{closed_inside, kind_at, stream_at}
+use Rattle.syn_replay.specs.Session.Step.{step}
 use Rattle.syn_replay.specs.Session.Walk.{last_state}
 
--- a stream of this parent's contents was open, at this place, and has ended afterwards
-pub record IsShut (before after : AllStreams) (content parent : ℕ) (p : Place) : Type 0 where
-  pub stream : Stream
-  pub here : slice_get before content ≡ Some stream
-  pub was_open : stream.is_open ≡ true
-  pub inside : stream.kind ≡ content_of parent
-  pub at_place : stream.place ≡ p
-  pub is_shut : has_ended after content ≡ true
+-- a stream of this parent's contents was open, and is not afterwards
+pub record EndedInside (before after : AllStreams) (content parent : ℕ) : Type 0 where
+  pub was_open : is_open_at before content ≡ true
+  pub inside : kind_at before content ≡ content_of parent
+  pub ended : is_open_at after content ≡ false
 
 -- the action discards its stream
 abbrev pub is_discard : Action → Bool
@@ -42,8 +38,10 @@ module _ (f : Forest) (cs : List Command) where
   pub data Closes (content parent : ℕ) (p : Place) : Type 0 where
     by_command : (st : AllStreams) (c : Command) (rest : List Command) →
         Comes st (c ∷ rest) → is_discard c.action ≡ false →
-        IsShut st (step c st).state content parent p → Closes content parent p
-    at_end : IsShut all_run (closed_inside 0 all_run) content parent p → Closes content parent p
+        EndedInside st (step c st).state content parent → (stream_at st content).place ≡ p
+        → Closes content parent p
+    at_end : EndedInside all_run (closed_inside 0 all_run) content parent
+        → (stream_at all_run content).place ≡ p → Closes content parent p
 
   -- a stream advances to a fork
   pub record Advances (stream fork : ℕ) : Type 0 where
@@ -62,7 +60,7 @@ module _ (f : Forest) (cs : List Command) where
   -- nothing is left at the end of stream 0, nor in a group's stream that is closed into a stream
   -- that counts
   pub record NothingLeft : Type 0 where
-    pub whole_read : (s : Stream) → slice_get all_run 0 ≡ Some s → leftover s.place ≡ None
+    pub whole_read : leftover (stream_at all_run 0).place ≡ None
     pub contents_read : (k parent : ℕ) (p : Place) →
         Closes k parent p → Counts parent → leftover p ≡ None
 

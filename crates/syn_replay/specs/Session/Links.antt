@@ -1,5 +1,5 @@
 -- How the program finds the contents of a stream.
-use Rattle.std.specs.Prelude.{◌≡◌, ℕ, ◌+◌, ◌<◌, cond, List, [], ◌∷◌, drop, Some}
+use Rattle.std.specs.Prelude.{◌≡◌, ℕ, ◌+◌, ◌<◌, if◌then◌else◌, List, [], ◌∷◌, drop, Some}
 use Rattle.std.specs.List.{slice_get}
 use Rattle.syn_replay.specs.Session.State.{AllStreams, StreamKind, is_content_of, kinds}
 use Rattle.syn_replay.specs.Session.Stream.{state_of_list}
@@ -9,8 +9,8 @@ use Rattle.syn_replay.specs.declared.session.stream.Stream.{Stream}
 abbrev pub contents_by_kind : (stream next : ℕ) → List StreamKind → List ℕ
 contents_by_kind stream next [] = []
 contents_by_kind stream next (kind ∷ kinds) =
-    cond (is_content_of stream kind) (next ∷ contents_by_kind stream (next + 1) kinds)
-    (contents_by_kind stream (next + 1) kinds)
+    if is_content_of stream kind then next ∷ contents_by_kind stream (next + 1) kinds
+    else contents_by_kind stream (next + 1) kinds
 
 -- the contents of a stream from this number on, by number
 abbrev pub contents : (stream from : ℕ) → AllStreams → List ℕ

@@ -14,6 +14,7 @@ use Rattle.syn_parse.specs.declared.fault.Fault.TheVariants.{Refused, Memory}
 use Rattle.syn_punctuated.specs.declared.pair.Pair.{Pair}
 use Rattle.syn_punctuated.specs.declared.pair.Pair.TheVariants.{Punctuated, End}
 use Rattle.tok_types.specs.declared.punctuation.Punctuation.{Punctuation}
+use Rattle.syn_replay.specs.Commands as commands
 use Rattle.syn_replay.specs.Commands.{Action, StreamRead, read, read_answer}
 use Rattle.syn_replay.specs.Reports as reports
 use Rattle.syn_replay.specs.Turns.{ListRule, pieces_of, terminated, separated}
@@ -83,10 +84,16 @@ abbrev pub is_read : Action → Bool
 is_read (read r) = true
 is_read a = false
 
--- an action that is a read is done
+-- whether a command concerns no other stream, and doesn't just parse a token
+abbrev pub is_other_read : Action → Bool
+is_other_read (read (commands.parse k)) = false
+is_other_read (read r) = true
+is_other_read a = false
+
+-- an action that is a read is done; no other action is
 abbrev pub IsDone : Action → parse.State → Result Answer Fault → parse.State → Type 0
 IsDone (read r) s result t = IsRead r s result t
-IsDone a s result t = Unit {0}
+IsDone a s result t = ⊥
 
 -- the rule of a list of this form
 abbrev pub rule_of : Form → ListRule

@@ -1,13 +1,12 @@
 -- The streams of a replay.
-use Rattle.std.specs.Prelude.{ℕ, zero, suc, ◌+◌, ◌==◌, ◌&&◌, ◌||◌, Bool, true, false, cond}
-use Rattle.std.specs.Prelude.{List, [], ◌∷◌, length, map, Option, Some, None}
-use Rattle.std.specs.List.{slice_get}
+use Rattle.std.specs.Prelude.{ℕ, suc, ◌+◌, ◌==◌, ◌&&◌, ◌||◌, Bool, true, false, if◌then◌else◌}
+use Rattle.std.specs.Prelude.{List, [], ◌∷◌, length, get_or, map, set, Option, None}
 use Rattle.std.specs.Option.{option_or}
+use Rattle.tok_leaves.specs.Spans.{call_site}
 use Rattle.tok_leaves.specs.declared.span.Span.{Span}
 use Rattle.tok_core.specs.Forest.{Forest}
-use Rattle.tok_leaves.specs.Spans.{call_site}
 use Rattle.tok_buffer.specs.Ahead.{Leftover, leftover}
-use Rattle.tok_buffer.specs.Place.{Place, empty_place, at, start}
+use Rattle.tok_buffer.specs.Place.{Place, at, empty_place, start}
 use Rattle.syn_parse.specs.State as parse
 use Rattle.syn_replay.specs.Reports.{Position, stands_at, at_empty}
 
@@ -24,26 +23,26 @@ pub record Stream : Type 0 where
   pub scope_span : Span
   pub kind : StreamKind
   pub is_open : Bool
-  pub note : Option Leftover
+  pub recorded : Option Leftover
 
--- a stream of the layer below, by its number's side
-abbrev pub standing : parse.State → StreamKind → Bool → Stream
-standing t kind is_open =
+-- a stream in this state of the layer below, of this kind, open or ended
+abbrev pub stream_from : parse.State → StreamKind → Bool → Stream
+stream_from t kind is_open =
     record {
       place = t.place;
       scope_span = t.scope_span;
       kind = kind;
       is_open = is_open;
-      note = t.noted;
+      recorded = t.noted;
     }
 
--- a stream at another place
-abbrev pub put : parse.State → Stream → Stream
-put t s = standing t s.kind s.is_open
+-- a stream in another state of the layer below
+abbrev pub moved_as : parse.State → Stream → Stream
+moved_as t s = stream_from t s.kind s.is_open
 
 -- a stream, as the layer below sees it
-abbrev pub at_rest : Stream → parse.State
-at_rest s = record { place = s.place; scope_span = s.scope_span; noted = s.note }
+abbrev pub parse_state : Stream → parse.State
+parse_state s = record { place = s.place; scope_span = s.scope_span; noted = s.recorded }
 
 -- the streams by their numbers, from 0
 abbrev pub AllStreams : Type 0
@@ -57,22 +56,35 @@ first_state f =
       scope_span = call_site;
       kind = outermost;
       is_open = true;
-      note = None;
+      recorded = None;
     } ∷ []
+
+-- a stream that does not exist counts as one that has ended
+abbrev pub no_stream : Stream
+no_stream =
+    record {
+      place = empty_place;
+      scope_span = call_site;
+      kind = outermost;
+      is_open = false;
+      recorded = None;
+    }
+
+-- stream k
+abbrev pub stream_at : AllStreams → ℕ → Stream
+stream_at st k = get_or st k no_stream
 
 -- whether a stream is there and open
 abbrev pub is_open_at : AllStreams → ℕ → Bool
-is_open_at st k = elim (slice_get st k) [ None ↦ false | Some s ↦ s.is_open ]
+is_open_at st k = (stream_at st k).is_open
 
 -- the kinds of the streams
 abbrev pub kinds : AllStreams → List StreamKind
 kinds st = map (λ s. s.kind) st
 
--- one stream changed
+-- the streams with stream k changed, if it exists
 abbrev pub with_stream : AllStreams → ℕ → (Stream → Stream) → AllStreams
-with_stream [] k f = []
-with_stream (s ∷ st) zero f = f s ∷ st
-with_stream (s ∷ st) (suc k) f = s ∷ with_stream st k f
+with_stream st k f = set st k (f (stream_at st k))
 
 -- a stream at another place
 abbrev pub moved_to : Place → Stream → Stream
@@ -83,27 +95,25 @@ abbrev pub spent : Stream → Stream
 spent s = record s { is_open = false }
 
 -- records a leftover, unless one is recorded already
-abbrev pub with_note : Option Leftover → Stream → Stream
-with_note n s = record s { note = option_or s.note n }
-
--- the stream was entered from this parent
-abbrev pub is_content_of : ℕ → StreamKind → Bool
-is_content_of parent outermost = false
-is_content_of parent (content_of p) = p == parent
-is_content_of parent a_fork = false
+abbrev pub recording : Option Leftover → Stream → Stream
+recording n s = record s { recorded = option_or s.recorded n }
 
 -- the kind of stream k; a stream that does not exist counts as outermost
 abbrev pub kind_at : AllStreams → ℕ → StreamKind
-kind_at st k = elim (slice_get st k) [ None ↦ outermost | Some s ↦ s.kind ]
+kind_at st k = (stream_at st k).kind
 
 -- whether a stream was entered from one whose number passes the test
 abbrev pub is_entered_from : (ℕ → Bool) → StreamKind → Bool
 is_entered_from test (content_of p) = test p
 is_entered_from test kind = false
 
+-- the stream was entered from this parent
+abbrev pub is_content_of : ℕ → StreamKind → Bool
+is_content_of parent kind = is_entered_from (λ p. p == parent) kind
+
 -- a stream ends if the test is true, and else stays unchanged
 abbrev pub spent_if : Bool → Stream → Stream
-spent_if b s = cond b (spent s) s
+spent_if b s = if b then spent s else s
 
 -- The streams from this number on, of which some end: those that are open and that pass the test,
 -- or were entered from one that ends.
@@ -111,7 +121,7 @@ abbrev pub ended_from : (ends : ℕ → Bool) → (next : ℕ) → AllStreams �
 ended_from ends next [] = []
 ended_from ends next (s ∷ later) =
     let e = s.is_open && (ends next || is_entered_from ends s.kind) in
-    spent_if e s ∷ ended_from (λ n. cond (n == next) e (ends n)) (next + 1) later
+    spent_if e s ∷ ended_from (λ n. if n == next then e else ends n) (next + 1) later
 
 -- a stream ends, and with it the open streams inside
 abbrev pub stream_ended : ℕ → AllStreams → AllStreams
@@ -128,46 +138,42 @@ abbrev pub left_from : (stream next : ℕ) → AllStreams → Option Leftover
 left_from stream next [] = None
 left_from stream next (s ∷ later) =
     option_or
-    (cond (s.is_open && is_content_of stream s.kind)
-    (option_or (option_or s.note (left_from next (next + 1) later)) (leftover s.place)) None)
+    (if s.is_open && is_content_of stream s.kind
+    then option_or (option_or s.recorded (left_from next (next + 1) later)) (leftover s.place)
+    else None)
     (left_from stream (next + 1) later)
 
 -- what is left inside a stream
 abbrev pub left_inside : AllStreams → ℕ → Option Leftover
 left_inside st k = left_from k 0 st
 
--- a stream that records what is left inside it
-abbrev pub gathered : AllStreams → ℕ → Stream → Stream
-gathered st k s = with_note (left_inside st k) s
+-- stream k, which records what is left inside it
+abbrev pub gathered : AllStreams → ℕ → Stream
+gathered st k = recording (left_inside st k) (stream_at st k)
 
--- the leftover that a stream reports when it ends
-abbrev pub handed_note : AllStreams → ℕ → Stream → Option Leftover
-handed_note st k s = option_or (gathered st k s).note (leftover s.place)
+-- the leftover that stream k reports when it ends
+abbrev pub reported : AllStreams → ℕ → Option Leftover
+reported st k = option_or (gathered st k).recorded (leftover (stream_at st k).place)
 
 -- a leftover is recorded on the parent of a group's stream
-abbrev pub with_note_on_parent : StreamKind → Option Leftover → AllStreams → AllStreams
-with_note_on_parent outermost n st = st
-with_note_on_parent (content_of p) n st = with_stream st p (with_note n)
-with_note_on_parent a_fork n st = st
+abbrev pub recording_on_parent : StreamKind → Option Leftover → AllStreams → AllStreams
+recording_on_parent outermost n st = st
+recording_on_parent (content_of p) n st = with_stream st p (recording n)
+recording_on_parent a_fork n st = st
 
 -- a group's stream records on its parent the leftover that it reports, and ends
 abbrev pub content_closed : ℕ → AllStreams → AllStreams
 content_closed k st =
-    elim (slice_get st k) [
-      | None ↦ st
-      | Some s ↦ stream_ended k (with_note_on_parent s.kind (handed_note st k s) st)
-    ]
+    stream_ended k (recording_on_parent (kind_at st k) (reported st k) st)
 
--- a stream goes to the place of a fork, and notes what is left of it and inside it; the fork ends
+-- a stream goes to the place of a fork, and takes over the leftover that the fork recorded
+abbrev pub moved_on : (fork : Stream) → Stream → Stream
+moved_on fork s = moved_as (parse.advanced (parse_state fork) (parse_state s)) s
+
+-- a stream moves to the place of a fork with all that the fork left, and the fork ends
 abbrev pub moved_to_fork : (stream fork : ℕ) → AllStreams → AllStreams
 moved_to_fork stream fork st =
-    elim (slice_get st fork) [
-      | None ↦ st
-      | Some f ↦
-          stream_ended fork
-          (with_stream st stream
-          (λ s. put (parse.advanced (at_rest (gathered st fork f)) (at_rest s)) s))
-    ]
+    stream_ended fork (with_stream st stream (moved_on (gathered st fork)))
 
 -- a stream of this kind was entered inside another, at most at this depth
 abbrev pub is_entered_within : (depth : ℕ) → AllStreams → (outer : ℕ) → StreamKind → Bool

@@ -6,8 +6,7 @@ use Rattle.syn_parse.specs.ErrorWords.{leftover_message}
 use Rattle.syn_replay.specs.Commands.{Command}
 use Rattle.syn_replay.specs.Reports.{Line, Verdict, accepted, left_over, Report}
 use Rattle.syn_replay.specs.Session.State.{AllStreams, first_state}
-use Rattle.std.specs.List.{slice_get}
-use Rattle.syn_replay.specs.Session.State.{handed_note}
+use Rattle.syn_replay.specs.Session.State.{reported}
 use Rattle.syn_replay.specs.Session.Step.{step, line}
 
 -- the lines of commands in order, from this state
@@ -26,8 +25,7 @@ verdict_on left = elim left [ None ↦ accepted | Some l ↦ left_over (leftover
 
 -- the verdict in this state: by the leftover that stream 0 reports
 abbrev pub verdict : AllStreams → Verdict
-verdict st =
-    elim (slice_get st 0) [ None ↦ accepted | Some s ↦ verdict_on (handed_note st 0 s) ]
+verdict st = verdict_on (reported st 0)
 
 -- the report on a forest and commands: a line for each command, and the verdict
 abbrev pub walk : Forest → List Command → Report

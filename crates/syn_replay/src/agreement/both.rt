@@ -1,9 +1,9 @@
-//! Two streams under one list of commands.
+//! Replays of one list of commands over two token streams.
 ghost use Rattle.std.specs.Prelude.{◌≡◌, true, IfOk, map};
 ghost use Rattle.syn_replay.specs.Agree.{ReportsAgree};
 ghost use Rattle.syn_replay.specs.Commands.{command_of};
 ghost use Rattle.syn_replay.specs.Meanings.{report_of};
-ghost use Rattle.syn_replay.specs.Session.Stepping.{ArePlain, IsPlainVerdict};
+ghost use Rattle.syn_replay.specs.Session.Promises.{ArePlain, IsPlainVerdict};
 ghost use Rattle.syn_replay.specs.Transparent.{DifferInInvisibleGroups, all_transparent};
 ghost use Rattle.syn_replay.specs.Session.Walk.{walk};
 
@@ -13,11 +13,13 @@ use crate::session::replay;
 use std::alloc::{AllocError, Global};
 use tok_core::TokenStream;
 
-/// Runs the commands over each of two streams, as `replay` does.
+/// Runs the commands over each of two token streams, and returns both reports.
 ///
-/// The reports agree (`agree`) if the streams differ only in invisible groups, each of these
-/// contains a visible token, and every command is transparent. Returns an error if an allocation
-/// fails.
+/// Each report is the one that `replay` returns for its stream. The two reports agree (see `agree`)
+/// if the streams differ only in invisible groups, each invisible group contains a visible token,
+/// and every command is transparent (see `is_transparent`).
+///
+/// Returns an error if an allocation fails.
 ///
 /// # Examples
 ///

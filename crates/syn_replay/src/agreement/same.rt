@@ -1,4 +1,4 @@
-//! Comparisons of pieces and streams, spans included.
+//! Functions that compare pieces and token streams, including their spans.
 ghost use Rattle.std.specs.Prelude.{◌≡◌, ◌↔◌, map, true};
 ghost use Rattle.tok_core.specs.Seen.{tree_of};
 ghost use Rattle.syn_replay.specs.Meanings.{piece_of, pieces_in};
@@ -13,7 +13,8 @@ fn same_piece(left: &Piece, right: &Piece) -> bool
     left.text.as_str() == right.text.as_str() && left.span == right.span
 }
 
-/// Returns `true` if the texts of leaves are equal in order. Spans count.
+/// Returns `true` if two lists contain the same pieces in the same order, with equal texts and
+/// equal spans.
 pub fn same_pieces(left: &[Piece], right: &[Piece]) -> bool
     ensures { (result ≡ true) ↔ (map piece_of left.now ≡ map piece_of right.now) }
 {
@@ -28,7 +29,7 @@ pub fn same_pieces(left: &[Piece], right: &[Piece]) -> bool
     true
 }
 
-/// Returns `true` if the parts of lists are equal in order.
+/// Returns `true` if the values and separators of two lists have equal pieces, in order.
 pub fn same_parts(left: &[Vec<Piece>], right: &[Vec<Piece>]) -> bool
     ensures { (result ≡ true) ↔ (map pieces_in left.now ≡ map pieces_in right.now) }
 {
@@ -44,7 +45,7 @@ pub fn same_parts(left: &[Vec<Piece>], right: &[Vec<Piece>]) -> bool
 }
 
 #[cycle(same)]
-/// Returns `true` if two streams are equal, spans included.
+/// Returns `true` if two token streams are equal, including all spans.
 pub fn same_streams(left: &TokenStream, right: &TokenStream) -> bool
     ensures { (result ≡ true) ↔ (left.now ≡ right.now) }
 {

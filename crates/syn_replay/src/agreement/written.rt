@@ -1,38 +1,37 @@
-//! Two streams under one list of commands, whose reports are written as they come.
-ghost use Rattle.std.specs.Prelude.{◌≡◌, ◌↔◌, true, IfOk, OnOk, map, string_bytes};
-ghost use Rattle.std.specs.Fmt.{HasWritten, IsPlainFormatter};
-ghost use Rattle.syn_replay.specs.Agree.{AnswersAgree, LinesAgree, ReportsAgree};
+//! Replays over two token streams that write both reports as text, without storing the lines.
+ghost use Rattle.std.specs.Prelude.{◌≡◌, ◌↔◌, true, IfOk, map, string_bytes};
+ghost use Rattle.syn_replay.specs.Agree.{AnswersAgree, ReportsAgree};
 ghost use Rattle.syn_replay.specs.Commands.{command_of};
 ghost use Rattle.syn_replay.specs.Meanings.{line_of, verdict_of};
-ghost use Rattle.syn_replay.specs.ReportText.{lines_text, report_text};
-ghost use Rattle.syn_replay.specs.Session.Stepping.{IsPlainVerdict};
-ghost use Rattle.syn_replay.specs.Session.Tracks.{state_of};
-ghost use Rattle.syn_replay.specs.Session.Walk.{last_state, lines_from, walk};
+ghost use Rattle.syn_replay.specs.ReportText.{report_text};
+ghost use Rattle.syn_replay.specs.Session.Promises.{IsPlainVerdict};
+ghost use Rattle.syn_replay.specs.Session.Walk.{walk};
 
 use crate::agreement::{answers_agree, verdicts_agree};
 use crate::command::Command;
 use crate::report::{Line, Verdict};
+use crate::session::runner::{Receiver, run};
 use crate::session::streams::Streams;
 use crate::session::written::{push_line, push_verdict, report_room};
-use crate::session::{line, verdict};
+use crate::session::{line, opened, verdict};
 use std::alloc::{AllocError, Global};
 use std::fmt::{Formatter, Write};
-use syn_parse::tokens_to_parse_buffer;
 use tok_buffer::TokenBuffer;
-use tok_core::{Span, TokenStream};
+use tok_core::TokenStream;
 
-/// The texts of the reports on two streams, their verdicts, and whether the reports agree.
+/// The result of `replay_both_texts`: the texts of two reports, their verdicts, and whether the
+/// reports agree.
 #[derive(Drop)]
 pub struct BothTexts {
-    /// The text of the first report.
+    /// The text of the report on the first token stream.
     pub left: String,
-    /// The text of the second report.
+    /// The text of the report on the second token stream.
     pub right: String,
-    /// The verdict of the first report.
+    /// The verdict on the first token stream: accepted, or rejected with an error.
     pub left_verdict: Verdict,
-    /// The verdict of the second report.
+    /// The verdict on the second token stream: accepted, or rejected with an error.
     pub right_verdict: Verdict,
-    /// Whether the reports agree.
+    /// Whether the two reports agree, in the sense of the function `agree`.
     pub agree: bool,
 }
 
@@ -44,39 +43,33 @@ fn still_agree(agree: bool, ours: &Line, theirs: &Line) -> bool
     agree && answers_agree(&ours.answer, &theirs.answer)
 }
 
-// Runs each command on both sides, and writes both lines. Returns `true` if all lines agree.
-fn run<'a, 'b, W: Write>(
-    left: &mut Streams<'a>,
-    right: &mut Streams<'b>,
-    commands: &[Command],
-    f: &mut Formatter<W>,
-    g: &mut Formatter<W>,
-) -> Result<bool, AllocError>
-    ensures left { OnOk result
-        (state_of left.new ≡ last_state (state_of left.old) (map command_of commands.now)) }
-    ensures right { OnOk result
-        (state_of right.new ≡ last_state (state_of right.old) (map command_of commands.now)) }
-    ensures left_text { OnOk result (IsPlainFormatter f.old → HasWritten W.write_str_gives f.old
-        (lines_text (lines_from (state_of left.old) (map command_of commands.now))) f.new) }
-    ensures right_text { OnOk result (IsPlainFormatter g.old → HasWritten W.write_str_gives g.old
-        (lines_text (lines_from (state_of right.old) (map command_of commands.now))) g.new) }
-    ensures agree { IfOk result (λ b. (b ≡ true)
-        ↔ LinesAgree (lines_from (state_of left.old) (map command_of commands.now))
-        (lines_from (state_of right.old) (map command_of commands.now))) }
-{
-    let mut agree = true;
-    for command in commands {
-        let ours = line(left, command)?;
-        let theirs = line(right, command)?;
-        agree = still_agree(agree, &ours, &theirs);
-        push_line(f, &ours)?;
-        push_line(g, &theirs)?;
-    }
-    Ok(agree)
+// The other of two replays, the texts of both, and whether all lines agree.
+#[derive(Drop)]
+struct Pair<'a, W> {
+    other: Streams<'a>,
+    left: Formatter<W>,
+    right: Formatter<W>,
+    agree: bool,
 }
 
-/// Runs the commands over each of two streams, as `replay_both` does, and writes both reports. Each
-/// line is written once its command has run, and no line is kept.
+// Runs the command on the other side, compares the lines, and writes both.
+impl<'a, W: Write> Receiver for Pair<'a, W> {
+    ghost use Rattle.syn_replay.specs.Session.Receivers.{GoesOn};
+
+    ghost receives = { GoesOn W.write_str_gives };
+
+    fn receive(&mut self, command: &Command, ours: Line) -> Result<(), AllocError> {
+        let theirs = line(&mut self.other, command)?;
+        self.agree = still_agree(self.agree, &ours, &theirs);
+        push_line(&mut self.left, &ours)?;
+        push_line(&mut self.right, &theirs)
+    }
+}
+
+/// Runs the commands over each of two token streams, and returns both reports as texts.
+///
+/// The texts show the reports that `replay_both` returns. The function writes each line once its
+/// command has run, instead of storing the lines.
 ///
 /// Returns an error if an allocation fails.
 ///
@@ -136,21 +129,22 @@ fn both_onto(
     ensures errors { IfOk result
         (λ b. IsPlainVerdict b.left_verdict × IsPlainVerdict b.right_verdict) }
 {
-    let whole = tokens_to_parse_buffer(alloc, left, Span::call_site());
-    let mut ours = Streams::new(alloc, whole.pause(), commands.len())?;
-    let whole = tokens_to_parse_buffer(alloc, right, Span::call_site());
-    let mut theirs = Streams::new(alloc, whole.pause(), commands.len())?;
-    let mut f = Formatter::new(report_room(alloc, commands.len())?);
-    let mut g = Formatter::new(report_room(alloc, commands.len())?);
-    let lines_agree = run(&mut ours, &mut theirs, commands, &mut f, &mut g)?;
+    let mut ours = opened(alloc, left, commands.len())?;
+    let mut pair = Pair {
+        other: opened(alloc, right, commands.len())?,
+        left: Formatter::new(report_room(alloc, commands.len())?),
+        right: Formatter::new(report_room(alloc, commands.len())?),
+        agree: true,
+    };
+    run(&mut ours, commands, &mut pair)?;
     let left_verdict = verdict(&ours)?;
-    let right_verdict = verdict(&theirs)?;
-    push_verdict(&mut f, &left_verdict)?;
-    push_verdict(&mut g, &right_verdict)?;
-    let agree = lines_agree && verdicts_agree(&left_verdict, &right_verdict);
+    let right_verdict = verdict(&pair.other)?;
+    push_verdict(&mut pair.left, &left_verdict)?;
+    push_verdict(&mut pair.right, &right_verdict)?;
+    let agree = pair.agree && verdicts_agree(&left_verdict, &right_verdict);
     Ok(BothTexts {
-        left: f.into_inner(),
-        right: g.into_inner(),
+        left: pair.left.into_inner(),
+        right: pair.right.into_inner(),
         left_verdict,
         right_verdict,
         agree,

@@ -1,5 +1,5 @@
-//! The ends of printed lines. Each is written into bytes on the stack, backwards, and pushed at
-//! once.
+//! Functions that write the end of a report line. They fill a buffer on the stack, starting at its
+//! end, and then write the result in one call.
 ghost use Rattle.std.specs.Prelude.{◌≡◌, ◌+◌, ◌≤◌, ◌<◌, ◌∷◌, ◌++◌, codes, drop};
 ghost use Rattle.std.specs.Fmt.{WritesOnOk, decimal};
 ghost use Rattle.std.specs.Str.{IsAscii};

@@ -1,4 +1,4 @@
-//! The text of a report.
+//! Functions that write a report as text.
 ghost use Rattle.std.specs.Prelude.{◌≡◌, ◌++◌, Some, codes, map};
 ghost use Rattle.std.specs.Fmt.{WritesOnOk};
 ghost use Rattle.std.specs.List.{flat_map};
@@ -20,13 +20,12 @@ impl fmt::Display for Report {
     fn fmt<W: Write>(&self, f: &mut Formatter<W>) -> fmt::Result {
         for line in &self.lines {
             write_line(f, line)?;
-            f.write_str("\n")?;
         }
         write_last(f, &self.verdict)
     }
 }
 
-/// Writes a verdict and its line feed.
+/// Writes a verdict, and then a line feed.
 pub fn write_last<W: Write>(f: &mut Formatter<W>, verdict: &Verdict) -> fmt::Result
     ensures { WritesOnOk W.write_str_gives f.old result
         (spec.as_line (spec.verdict_text (verdict_of verdict.now))) f.new }
@@ -39,23 +38,17 @@ impl fmt::Display for Line {
     ghost output = { λ l. Some (spec.line_text (line_of l)) };
 
     fn fmt<W: Write>(&self, f: &mut Formatter<W>) -> fmt::Result {
-        write_line(f, self)
+        write_answer(f, &self.answer)?;
+        f.write_str(" ")?;
+        write_position(f, self.position)
     }
 }
 
-// Writes an answer and the position after it. The parts of a line are written without a format,
-// since a report has many and each format is a call.
-fn write_line<W: Write>(f: &mut Formatter<W>, line: &Line) -> fmt::Result
-    ensures { WritesOnOk W.write_str_gives f.old result (spec.line_text (line_of line.now)) f.new }
-{
-    write_answer(f, &line.answer)?;
-    f.write_str(" ")?;
-    write_position(f, line.position)
-}
-
-/// Writes a line and its line feed, in fewer pieces than `Display` writes them. Most lines end in a
-/// span or a position.
-pub fn write_ended<W: Write>(f: &mut Formatter<W>, line: &Line) -> fmt::Result
+/// Writes a line of a report, and then a line feed.
+///
+/// A report has many lines, so this function does not call `write!`. Most lines end in a span or a
+/// position, which `write_end` and `write_spanned_end` write in one call.
+pub fn write_line<W: Write>(f: &mut Formatter<W>, line: &Line) -> fmt::Result
     ensures { WritesOnOk W.write_str_gives f.old result
         (spec.as_line (spec.line_text (line_of line.now))) f.new }
 {
@@ -145,7 +138,7 @@ impl Misuse {
     }
 }
 
-/// Writes the text of `Display`.
+/// Writes the same text as `Display`.
 impl fmt::Debug for Answer {
     fn fmt<W: Write>(&self, f: &mut Formatter<W>) -> fmt::Result {
         write!(f, "{self}")

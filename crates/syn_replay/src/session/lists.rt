@@ -1,4 +1,4 @@
-//! Lists of tokens of one kind.
+//! Functions that parse lists of tokens of one kind.
 ghost use Rattle.std.specs.Prelude.{◌≡◌, map, IfOk};
 ghost use Rattle.std.specs.List.{flat_map};
 ghost use Rattle.tok_types.specs.Texts.{punctuation_word};
@@ -16,16 +16,16 @@ use syn_parse::{ParseStream, Result};
 use syn_punctuated::Punctuated;
 use tok_types::token::{self, Punctuation};
 
-/// A rule that says when a list ends.
+/// The rule that decides where a list ends.
 #[derive(Clone, Copy)]
 pub enum Form {
-    /// At the stream's end. The last separator may be missing.
+    /// The list ends at the end of the stream. The last separator may be missing.
     Terminated,
-    /// After a value that no separator follows.
+    /// The list ends after the first value that no separator follows.
     Separated,
 }
 
-/// Parses tokens of this kind, with this separator between them.
+/// Parses a list of tokens of the given kind, with the given separator between the tokens.
 pub fn read(
     input: ParseStream<'_, '_>,
     form: Form,

@@ -1,4 +1,4 @@
-//! Peeks whose kind is known only at run time.
+//! Functions that peek for a target that is known only at run time.
 ghost use Rattle.std.specs.Prelude.{◌≡◌};
 ghost use Rattle.tok_buffer.specs.Cursors.{place_of};
 ghost use Rattle.syn_replay.specs.Meanings.{kind_of, look_of};
@@ -13,7 +13,7 @@ use tok_types::token::{
 use tok_types::{End, IdentAny};
 
 impl Look {
-    /// Returns `true` if this is the next token.
+    /// Returns `true` if this target is next at the cursor.
     pub fn peek(self, cursor: Cursor<'_>) -> bool
         ensures { result ≡ spec.peek (look_of self) (place_of cursor.entry) }
     {
@@ -29,7 +29,7 @@ impl Look {
         }
     }
 
-    /// Returns `true` if this comes after the next token.
+    /// Returns `true` if this target comes after the next token.
     pub fn peek2(self, cursor: Cursor<'_>) -> bool
         ensures { result ≡ spec.peek2 (look_of self) (place_of cursor.entry) }
     {
@@ -39,7 +39,7 @@ impl Look {
         }
     }
 
-    /// Returns `true` if this comes after the next two tokens.
+    /// Returns `true` if this target comes after the next two tokens.
     pub fn peek3(self, cursor: Cursor<'_>) -> bool
         ensures { result ≡ spec.peek3 (look_of self) (place_of cursor.entry) }
     {
@@ -49,7 +49,7 @@ impl Look {
         }
     }
 
-    /// Returns its name in the error of a lookahead.
+    /// Returns the name of this target for the error message of a lookahead.
     pub fn display(self) -> &'static str
         ensures { result.now ≡ spec.display (look_of self) }
     {
@@ -67,7 +67,8 @@ impl Look {
 }
 
 impl Kind {
-    /// Returns `true` if the next token is of this kind. A lifetime may have any name.
+    /// Returns `true` if the next token is of this kind. For the kind `Lifetime`, a lifetime may
+    /// have any name.
     pub fn peek(self, cursor: Cursor<'_>) -> bool
         ensures { result ≡ spec.peek_kind (kind_of self) (place_of cursor.entry) }
     {
@@ -83,7 +84,7 @@ impl Kind {
         }
     }
 
-    /// Returns its name in the error of a lookahead.
+    /// Returns the name of this kind for the error message of a lookahead.
     pub fn display(self) -> &'static str
         ensures { result.now ≡ spec.display_kind (kind_of self) }
     {

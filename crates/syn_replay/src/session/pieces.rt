@@ -1,5 +1,5 @@
-//! The leaves that were read, as pieces.
-ghost use Rattle.std.specs.Prelude.{◌≡◌, ◌<◌, ◌∷◌, [], map, IfOk, encode_utf8};
+//! Functions that convert tokens to pieces, each of which is the text and span of a leaf.
+ghost use Rattle.std.specs.Prelude.{◌≡◌, ◌∷◌, [], map, IfOk, encode_utf8};
 ghost use Rattle.tok_core.specs.Forest.{leaf};
 ghost use Rattle.tok_leaves.specs.Leaves.{ident_of, literal_of, punct_of};
 ghost use Rattle.tok_core.specs.Seen.{lifetime_trees};
@@ -20,7 +20,7 @@ fn piece(alloc: Global, text: &str, span: Span) -> Result<Piece, AllocError>
     })
 }
 
-/// Returns one piece with this text.
+/// Returns a list of one piece with the given text and span.
 pub fn word(alloc: Global, text: &str, span: Span) -> Result<Vec<Piece>, AllocError>
     ensures { IfOk result
         (λ ps. map piece_of ps.items ≡ record { text = text.now; span = span } ∷ []) }
@@ -40,14 +40,14 @@ fn one(alloc: Global, text: Text, span: Span) -> Result<Vec<Piece>, AllocError>
     Ok(pieces)
 }
 
-/// Returns the piece of an identifier.
+/// Returns a list of one piece with the text and span of an identifier.
 pub fn ident(alloc: Global, ident: &Ident) -> Result<Vec<Piece>, AllocError>
     ensures { IfOk result (ArePieces (leaf (ident_of ident.now) ∷ [])) }
 {
     one(alloc, ident.to_text()?, ident.span())
 }
 
-/// Returns the piece of a literal.
+/// Returns a list of one piece with the text and span of a literal.
 pub fn literal(alloc: Global, literal: &Literal) -> Result<Vec<Piece>, AllocError>
     ensures { IfOk result (ArePieces (leaf (literal_of literal.now) ∷ [])) }
 {
@@ -62,7 +62,7 @@ fn character(alloc: Global, c: char, span: Span) -> Result<Piece, AllocError>
     piece(alloc, c.encode_utf8(&mut bytes), span)
 }
 
-/// Returns the piece of a punct.
+/// Returns a list of one piece with the character and span of a punct.
 pub fn punct(alloc: Global, punct: Punct) -> Result<Vec<Piece>, AllocError>
     ensures { IfOk result (ArePieces (leaf (punct_of punct) ∷ [])) }
 {
@@ -71,7 +71,7 @@ pub fn punct(alloc: Global, punct: Punct) -> Result<Vec<Piece>, AllocError>
     Ok(pieces)
 }
 
-/// Returns the pieces of a lifetime's apostrophe and of its name.
+/// Returns two pieces: the apostrophe of a lifetime, and its name.
 pub fn lifetime(alloc: Global, lifetime: &Lifetime) -> Result<Vec<Piece>, AllocError>
     ensures { IfOk result
         (ArePieces (lifetime_trees lifetime.now.apostrophe (ident_of lifetime.now.ident))) }
@@ -82,7 +82,8 @@ pub fn lifetime(alloc: Global, lifetime: &Lifetime) -> Result<Vec<Piece>, AllocE
     Ok(pieces)
 }
 
-/// Returns the pieces of a punctuation's characters, as many as have a span.
+/// Returns a piece for each character of a punctuation, and stops early if there are fewer spans
+/// than characters.
 pub fn characters(alloc: Global, text: &[u8], spans: &[Span]) -> Result<Vec<Piece>, AllocError>
     ensures { IfOk result (λ ps. map piece_of ps.items ≡ punct_pieces text.now spans.now) }
 {

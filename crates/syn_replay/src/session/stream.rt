@@ -1,30 +1,41 @@
-//! One stream of a replay.
-ghost use Rattle.std.specs.Prelude.{◌≡◌, [], None, true, false};
+//! A single stream of a replay.
+ghost use Rattle.std.specs.Prelude.{◌≡◌, [], IfOk, None, true, false};
+ghost use Rattle.tok_buffer.specs.Cursors.{place_of};
 ghost use Rattle.syn_parse.specs.Pauses.{paused_state};
-ghost use Rattle.syn_replay.specs.Session.State.{a_fork, standing};
+ghost use Rattle.syn_replay.specs.Commands as commands;
+ghost use Rattle.syn_replay.specs.Commands.{command_of};
+ghost use Rattle.syn_replay.specs.Meanings.{kind_of, position_of};
+ghost use Rattle.syn_replay.specs.Session.Reading.{is_other_read, is_read};
+ghost use Rattle.syn_replay.specs.Session.State.{a_fork, printed_position, stream_from};
 ghost use Rattle.syn_replay.specs.Session.Step.{is_content, is_fork};
-ghost use Rattle.syn_replay.specs.Session.Stream.{stream_kind, stream_of};
+ghost use Rattle.syn_replay.specs.Session.Stream.{IsReadLine, KeepsContents, stream_kind, stream_of};
 
-use std::alloc::Global;
-use syn_parse::Paused;
+use crate::command::{Command, Kind};
+use crate::report::{Answer, Line, Position};
+use crate::session::{reads, tokens};
+use std::alloc::{AllocError, Global};
+use syn_parse::{Fault, Paused};
+use tok_buffer::Cursor;
 
-/// A stream, at rest between two commands.
+/// A stream of a replay, paused between two commands.
 #[derive(Drop)]
 pub struct Stream<'a> {
     pub paused: Paused<'a>,
-    /// The stream from which this group's stream was entered.
+    /// The number of the stream from which this group was entered, or `None` if this is not a
+    /// group's stream.
     pub parent: Option<usize>,
-    /// The groups' streams that were entered from this one, by number.
+    /// The numbers of the groups' streams that were entered from this stream.
     pub contents: Vec<usize>,
     pub is_fork: bool,
     pub is_open: bool,
 }
 
 impl<'a> Stream<'a> {
-    /// Returns the whole stream, or the stream of a group that was entered from `parent`.
+    /// Creates the stream of a group that was entered from stream `parent`, or stream 0 if `parent`
+    /// is `None`.
     pub fn new(alloc: Global, paused: Paused<'a>, parent: Option<usize>) -> Stream<'a>
         ensures stream { stream_of result
-            ≡ standing (paused_state paused.entry) (stream_kind false parent) true }
+            ≡ stream_from (paused_state paused.entry) (stream_kind false parent) true }
         ensures parent { result.parent ≡ parent }
         ensures contents { result.contents.items ≡ [] }
     {
@@ -37,9 +48,9 @@ impl<'a> Stream<'a> {
         }
     }
 
-    /// Returns a fork.
+    /// Creates a fork at the position of `paused`.
     pub fn fork(alloc: Global, paused: Paused<'a>) -> Stream<'a>
-        ensures stream { stream_of result ≡ standing (paused_state paused.entry) a_fork true }
+        ensures stream { stream_of result ≡ stream_from (paused_state paused.entry) a_fork true }
         ensures parent { result.parent ≡ None }
         ensures contents { result.contents.items ≡ [] }
     {
@@ -58,10 +69,89 @@ impl<'a> Stream<'a> {
         self.is_fork && self.parent.is_none()
     }
 
-    /// Returns `true` for the stream of a group.
+    /// Returns `true` if this is the stream of a group.
     pub fn is_content(&self) -> bool
         ensures { result ≡ is_content (stream_of self.now).kind }
     {
         self.parent.is_some()
+    }
+
+    pub fn position(&self) -> Position
+        ensures { position_of result ≡ printed_position (stream_of self.now).place }
+    {
+        position_at(self.paused.cursor())
+    }
+
+    /// Runs a command that concerns only this stream.
+    pub fn read(&mut self, command: &Command) -> Result<Line, AllocError>
+        requires { is_read (command_of command.now).action ≡ true }
+        ensures line { IfOk result
+            (λ l. IsReadLine (command_of command.now).action l
+            (stream_of self.old) (stream_of self.new)) }
+        ensures contents { KeepsContents self.old self.new }
+    {
+        match command {
+            Command::Parse(_, kind) => self.parse(*kind),
+            _ => self.answer(command),
+        }
+    }
+
+    // Parses a token of this kind. The pieces go into the line at once, and not by way of an answer.
+    // Out of line, as `Streams` says.
+    #[inline(never)]
+    fn parse(&mut self, kind: Kind) -> Result<Line, AllocError>
+        ensures line { IfOk result
+            (λ l. IsReadLine (commands.read (commands.parse (kind_of kind))) l
+            (stream_of self.old) (stream_of self.new)) }
+        ensures contents { KeepsContents self.old self.new }
+    {
+        let mut input = self.paused.resume();
+        let pieces = tokens::parse(&mut input, kind);
+        let position = position_at(input.cursor());
+        self.paused = input.pause();
+        match pieces {
+            Ok(pieces) => Ok(Line {
+                answer: Answer::Read(pieces),
+                position,
+            }),
+            Err(Fault::Refused(refusal)) => Ok(Line {
+                answer: Answer::Refused(refusal),
+                position,
+            }),
+            Err(Fault::Memory(error)) => Err(error),
+        }
+    }
+
+    // Runs any other command that concerns no other stream. Out of line as `parse` is.
+    #[inline(never)]
+    fn answer(&mut self, command: &Command) -> Result<Line, AllocError>
+        requires { is_other_read (command_of command.now).action ≡ true }
+        ensures line { IfOk result
+            (λ l. IsReadLine (command_of command.now).action l
+            (stream_of self.old) (stream_of self.new)) }
+        ensures contents { KeepsContents self.old self.new }
+    {
+        let mut input = self.paused.resume();
+        let answer = reads::answer(&mut input, command);
+        let position = position_at(input.cursor());
+        self.paused = input.pause();
+        match answer {
+            Ok(answer) => Ok(Line { answer, position }),
+            Err(Fault::Refused(error)) => Ok(Line {
+                answer: Answer::Refused(error),
+                position,
+            }),
+            Err(Fault::Memory(error)) => Err(error),
+        }
+    }
+}
+
+// Returns the position of a stream at this cursor.
+fn position_at(cursor: Cursor<'_>) -> Position
+    ensures { position_of result ≡ printed_position (place_of cursor.entry) }
+{
+    match cursor.position() {
+        None => Position::Empty,
+        Some(n) => Position::At(n),
     }
 }

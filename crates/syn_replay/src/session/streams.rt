@@ -1,12 +1,14 @@
-//! The streams of a replay, by number.
+//! The numbered streams of a replay.
 ghost use Rattle.std.specs.Prelude.{◌≡◌, ◌<◌, length};
 ghost use Rattle.syn_parse.specs.Groups.{AreParts, Enters};
 ghost use Rattle.syn_parse.specs.ErrorWords.{refused_at};
 ghost use Rattle.syn_replay.specs.Session.Entering.{entered_by, entering_words};
 ghost use Rattle.syn_replay.specs.Session.Links.{AreListed};
-ghost use Rattle.syn_replay.specs.Session.Stepping.{Answers};
+ghost use Rattle.syn_replay.specs.Session.Promises.{Answers};
 
-use crate::report::{Answer, Misuse};
+use crate::command::Command;
+use crate::report::{Answer, Line, Misuse, Position};
+use crate::session::rooms;
 use crate::session::stream::Stream;
 use std::alloc::{AllocError, Global};
 use syn_parse::{
@@ -15,16 +17,11 @@ use syn_parse::{
 };
 use tok_core::{DelimSpan, Delimiter};
 
-/// The most commands for which room is asked for at first.
-pub const MOST_COMMANDS: usize = 1 << 16;
-
-/// The streams of a replay. Stream 0 is the whole.
+/// The numbered streams of a replay. Stream 0 reads the whole token stream.
 ///
-/// Each stream lists those of its groups, so that closing it visits those alone.
-///
-/// # Requires
-///
-/// Each call but `get` requires that the streams it names exist.
+/// Each stream stores the numbers of its groups' streams, so that closing a stream visits only
+/// these. A command changes nothing if its stream does not exist, has ended, or is of the wrong
+/// kind.
 #[derive(Drop)]
 pub struct Streams<'a> {
     list: Vec<Stream<'a>>,
@@ -32,35 +29,39 @@ pub struct Streams<'a> {
     ghost listed: { AreListed list.items },
 }
 
+// The functions that are out of line make lines: the loop over the commands clears, for each
+// command, the locals of all that is inlined into it.
 impl<'a> Streams<'a> {
-    ghost use Rattle.std.specs.Prelude.{◌≡◌, ◌+◌, ◌/◌, ◌<◌, ◌∷◌, [], ◌++◌, length, min, vec_capacity, Some, None, MatchOption, IfOk, OnOk, OnErr, true};
-    ghost use Rattle.std.specs.List.{slice_get};
+    ghost use Rattle.std.specs.Prelude.{◌≡◌, ◌<◌, ◌∷◌, [], ◌++◌, length, Some, None, MatchOption, MatchResult, IfOk, OnOk, OnErr, true};
     ghost use Rattle.syn_parse.specs.Pauses.{paused_state};
     ghost use Rattle.syn_replay.specs.Commands as commands;
-    ghost use Rattle.syn_replay.specs.Session.State.{outermost, content_of, a_fork, with_stream, standing, put, content_closed, stream_ended, is_inside, is_open_at, is_or_inside};
-    ghost use Rattle.syn_replay.specs.Session.Step.{step_on};
-    ghost use Rattle.syn_replay.specs.Session.Stepping.{IsStepped, gathered_at};
+    ghost use Rattle.syn_replay.specs.Session.State.{outermost, content_of, a_fork, gathered, parse_state, with_stream, stream_from, moved_as, stream_ended, is_inside, is_open_at, is_or_inside};
+    ghost use Rattle.syn_replay.specs.Session.Step.{is_unknown, stream_misuse, stream_position};
+    ghost use Rattle.syn_replay.specs.Commands.{command_of, on};
+    ghost use Rattle.syn_replay.specs.Meanings.{position_of};
+    ghost use Rattle.syn_replay.specs.Session.Reading.{is_read};
+    ghost use Rattle.syn_replay.specs.Session.Promises.{IsLine, IsOpen, IsStream};
     ghost use Rattle.syn_replay.specs.Session.Stream.{stream_of};
-    ghost use Rattle.syn_replay.specs.Session.Tracks.{state_of};
+    ghost use Rattle.syn_replay.specs.Session.Rooms.{streams_room};
+    ghost use Rattle.syn_replay.specs.Session.Streams.{room_of, state_of};
 
-    /// Creates the list with the whole stream, for so many commands. In long lists, about one in
-    /// eight makes a stream.
+    /// Creates the streams of a replay, with `whole` as stream 0. Reserves room for this many
+    /// commands.
     pub fn new(alloc: Global, whole: Paused<'a>, commands: usize) -> Result<Self, AllocError>
         ensures state { IfOk result
-            (λ s. state_of s ≡ standing (paused_state whole.entry) outermost true ∷ []) }
-        ensures room { IfOk result
-            (λ s. vec_capacity s.list ≡ min commands 65536 / 8 + 4) }
+            (λ s. state_of s ≡ stream_from (paused_state whole.entry) outermost true ∷ []) }
+        ensures room { IfOk result (λ s. room_of s ≡ streams_room commands) }
     {
-        let mut list = Vec::with_capacity(alloc, commands.min(MOST_COMMANDS) / 8 + 4)?;
+        let mut list = Vec::with_capacity(alloc, rooms::streams(commands))?;
         list.push_reserved(Stream::new(alloc, whole, None));
         Ok(Streams { list })
     }
 
-    /// Returns stream `n`, if it exists.
+    /// Returns stream `n`, or `None` if it does not exist.
     pub fn get(&self, n: usize) -> Option<&Stream<'a>>
         ensures { MatchOption result
-            (slice_get (state_of self.now) n ≡ None)
-            (λ s. slice_get (state_of self.now) n ≡ Some (stream_of s.now)) }
+            (is_unknown (state_of self.now) n ≡ true)
+            (λ s. IsStream (state_of self.now) n (stream_of s.now)) }
     {
         if n < self.list.len() {
             Some(&self.list[n])
@@ -69,19 +70,60 @@ impl<'a> Streams<'a> {
         }
     }
 
-    /// Returns stream `n`, which exists.
-    pub fn at(&self, n: usize) -> &Stream<'a>
-        requires { n < length (state_of self.now) }
-        ensures { slice_get (state_of self.now) n ≡ Some (stream_of result.now) }
+    // Returns stream `n` if it is open.
+    fn open(&self, n: usize) -> std::result::Result<&Stream<'a>, Misuse>
+        ensures { MatchResult result
+            (λ s. IsOpen (state_of self.now) n (stream_of s.now))
+            (λ m. stream_misuse (state_of self.now) n ≡ Some m) }
     {
-        &self.list[n]
+        match self.get(n) {
+            None => Err(Misuse::NoStream),
+            Some(stream) if !stream.is_open => Err(Misuse::Spent),
+            Some(stream) => Ok(stream),
+        }
     }
 
-    /// Puts stream `n` at another place.
-    pub fn put(&mut self, n: usize, paused: Paused<'a>)
+    // Returns the line of a command on stream `n` with this answer.
+    fn line(&self, n: usize, answer: Answer) -> Line
+        ensures answer { result.answer ≡ answer }
+        ensures position { position_of result.position ≡ stream_position (state_of self.now) n }
+    {
+        let position = match self.get(n) {
+            None => Position::Missing,
+            Some(stream) => stream.position(),
+        };
+        Line { answer, position }
+    }
+
+    /// Runs a command that concerns only the stream that it names.
+    pub fn read(&mut self, command: &Command) -> Result<Line, AllocError>
+        requires { is_read (command_of command.now).action ≡ true }
+        ensures { IfOk result
+            (λ l. IsLine l (state_of self.new) (state_of self.old) (command_of command.now)) }
+    {
+        let n = command.stream_number();
+        if n >= self.list.len() {
+            return Ok(Line {
+                answer: Answer::Misused(Misuse::NoStream),
+                position: Position::Missing,
+            });
+        }
+        let stream = &mut self.list[n];
+        if stream.is_open {
+            stream.read(command)
+        } else {
+            Ok(Line {
+                answer: Answer::Misused(Misuse::Spent),
+                position: stream.position(),
+            })
+        }
+    }
+
+    // Moves stream `n` to another place.
+    fn move_to(&mut self, n: usize, paused: Paused<'a>)
         requires { n < length (state_of self.old) }
         ensures { state_of self.new
-            ≡ with_stream (state_of self.old) n (put (paused_state paused.entry)) }
+            ≡ with_stream (state_of self.old) n (moved_as (paused_state paused.entry)) }
     {
         self.list[n].paused = paused;
     }
@@ -98,8 +140,8 @@ impl<'a> Streams<'a> {
         ensures number { IfOk result (λ i. i ≡ length (state_of self.old)) }
         ensures ok { OnOk result
             (state_of self.new
-            ≡ with_stream (state_of self.old) n (put (paused_state parent.entry))
-            ++ standing (paused_state content.entry) (content_of n) true ∷ []) }
+            ≡ with_stream (state_of self.old) n (moved_as (paused_state parent.entry))
+            ++ stream_from (paused_state content.entry) (content_of n) true ∷ []) }
         ensures err { OnErr result (state_of self.new ≡ state_of self.old) }
     {
         let number = self.list.len();
@@ -113,23 +155,25 @@ impl<'a> Streams<'a> {
         Ok(number)
     }
 
-    /// Enters the next group of stream `n`, if it has the wanted delimiter.
-    pub fn enter(&mut self, n: usize, wanted: Option<Delimiter>) -> Result<Answer, AllocError>
-        requires { n < length (state_of self.old) }
+    /// Enters the next group of stream `n` if the group has the delimiter `wanted`. If `wanted` is
+    /// `None`, the group may have any delimiter.
+    #[inline(never)]
+    pub fn enter(&mut self, n: usize, wanted: Option<Delimiter>) -> Result<Line, AllocError>
         ensures { IfOk result
-            (λ a. IsStepped a (state_of self.new)
-            (step_on (commands.enter wanted) (state_of self.old) n
-            (slice_get (state_of self.old) n))) }
+            (λ l. IsLine l (state_of self.new) (state_of self.old) (on n (commands.enter wanted))) }
     {
-        let mut input = self.list[n].paused.resume();
+        let mut input = match self.open(n) {
+            Ok(stream) => stream.paused.resume(),
+            Err(misuse) => return Ok(self.line(n, Answer::Misused(misuse))),
+        };
         match enter_group(&mut input, wanted) {
             Ok((delimiter, span, content)) => {
                 let number = self.add_content(n, content.pause(), input.pause())?;
-                Ok(Answer::Entered(number, delimiter, span))
+                Ok(self.line(n, Answer::Entered(number, delimiter, span)))
             }
             Err(fault) => {
                 input.discard();
-                refused(fault)
+                Ok(self.line(n, refused(fault)?))
             }
         }
     }
@@ -139,7 +183,7 @@ impl<'a> Streams<'a> {
         ensures number { IfOk result (λ i. i ≡ length (state_of self.old)) }
         ensures ok { OnOk result
             (state_of self.new
-            ≡ state_of self.old ++ standing (paused_state fork.entry) a_fork true ∷ []) }
+            ≡ state_of self.old ++ stream_from (paused_state fork.entry) a_fork true ∷ []) }
         ensures err { OnErr result (state_of self.new ≡ state_of self.old) }
     {
         let number = self.list.len();
@@ -148,24 +192,26 @@ impl<'a> Streams<'a> {
         Ok(number)
     }
 
-    /// Makes a stream at the place of stream `n`.
-    pub fn fork(&mut self, n: usize) -> Result<Answer, AllocError>
-        requires { n < length (state_of self.old) }
+    /// Creates a fork: a new stream at the position of stream `n`.
+    #[inline(never)]
+    pub fn fork(&mut self, n: usize) -> Result<Line, AllocError>
         ensures { IfOk result
-            (λ a. IsStepped a (state_of self.new)
-            (step_on commands.fork (state_of self.old) n (slice_get (state_of self.old) n))) }
+            (λ l. IsLine l (state_of self.new) (state_of self.old) (on n commands.fork)) }
     {
-        let input = self.list[n].paused.resume();
+        let input = match self.open(n) {
+            Ok(stream) => stream.paused.resume(),
+            Err(misuse) => return Ok(self.line(n, Answer::Misused(misuse))),
+        };
         let fork = input.fork();
         input.discard();
         let number = self.add_fork(fork.pause())?;
-        Ok(Answer::Forked(number))
+        Ok(self.line(n, Answer::Forked(number)))
     }
 
-    /// Returns stream `n` as it is once the open groups inside it are closed.
+    /// Returns stream `n` with the open groups inside it closed. The stored streams are unchanged.
     pub fn gathered(&self, n: usize) -> ParseBuffer<'a>
         requires { n < length (state_of self.now) }
-        ensures { gathered_at (state_of self.now) n ≡ Some result }
+        ensures { result ≡ parse_state (gathered (state_of self.now) n) }
     {
         let stream = &self.list[n];
         let mut input = stream.paused.resume();
@@ -178,9 +224,9 @@ impl<'a> Streams<'a> {
         input
     }
 
-    /// Ends a stream and the open groups inside it. What they leave unread is recorded nowhere. No
-    /// list is walked twice, since a stream ends once.
-    pub fn end(&mut self, k: usize)
+    // Ends a stream and the open groups inside it. What they leave unread is recorded nowhere. No
+    // list is walked twice, since a stream ends once.
+    fn end(&mut self, k: usize)
         requires { is_open_at (state_of self.old) k ≡ true }
         ensures { state_of self.new ≡ stream_ended k (state_of self.old) }
     {
@@ -193,21 +239,44 @@ impl<'a> Streams<'a> {
         }
     }
 
-    /// Closes a group's stream, and all that are open inside it, into its parent.
-    pub fn close(&mut self, k: usize)
-        requires { is_open_at (state_of self.old) k ≡ true }
-        ensures { state_of self.new ≡ content_closed k (state_of self.old) }
+    /// Ends fork `n` and the open groups inside it, without recording a leftover token.
+    #[inline(never)]
+    pub fn discard(&mut self, n: usize) -> Line
+        ensures { IsLine result (state_of self.new) (state_of self.old) (on n commands.discard) }
     {
-        if let Some(parent) = self.list[k].parent {
-            let content = self.gathered(k);
-            let mut input = self.list[parent].paused.resume();
-            input.close(content);
-            self.put(parent, input.pause());
+        let is_fork = match self.open(n) {
+            Ok(stream) => stream.is_fork(),
+            Err(misuse) => return self.line(n, Answer::Misused(misuse)),
+        };
+        if !is_fork {
+            return self.line(n, Answer::Misused(Misuse::NoFork));
         }
-        self.end(k);
+        self.end(n);
+        self.line(n, Answer::Done)
     }
 
-    /// Returns `true` if a stream was entered inside another, at any depth.
+    /// Closes the group's stream `n`, and every open stream inside it. If a token is left over, the
+    /// stream around the group records this token, unless it has already recorded one.
+    #[inline(never)]
+    pub fn close(&mut self, n: usize) -> Line
+        ensures { IsLine result (state_of self.new) (state_of self.old) (on n commands.close) }
+    {
+        let parent = match self.open(n) {
+            Ok(stream) => stream.parent,
+            Err(misuse) => return self.line(n, Answer::Misused(misuse)),
+        };
+        let Some(parent) = parent else {
+            return self.line(n, Answer::Misused(Misuse::NoContent));
+        };
+        let content = self.gathered(n);
+        let mut input = self.list[parent].paused.resume();
+        input.close(content);
+        self.move_to(parent, input.pause());
+        self.end(n);
+        self.line(n, Answer::Done)
+    }
+
+    /// Returns `true` if stream `inner` was entered inside stream `outer`, at any depth.
     pub fn is_inside(&self, outer: usize, inner: usize) -> bool
         requires { inner < length (state_of self.now) }
         ensures { result ≡ is_inside (state_of self.now) outer inner }
@@ -222,32 +291,40 @@ impl<'a> Streams<'a> {
         false
     }
 
-    /// Moves stream `n` to the place of a fork, and ends the fork. The open groups inside the fork
-    /// are closed.
-    ///
-    /// The fork must be in the same scope, and the stream neither the fork nor inside it.
-    pub fn advance(&mut self, n: usize, fork: usize) -> Answer
-        requires stream { n < length (state_of self.old) }
-        requires fork { is_open_at (state_of self.old) fork ≡ true }
-        ensures { IsStepped result (state_of self.new)
-            (step_on (commands.advance fork) (state_of self.old) n
-            (slice_get (state_of self.old) n)) }
+    /// Moves stream `n` to the position of a fork in the same scope, and ends the fork. The open
+    /// groups inside the fork are closed.
+    #[inline(never)]
+    pub fn advance(&mut self, n: usize, fork: usize) -> Line
+        ensures { IsLine result (state_of self.new) (state_of self.old)
+            (on n (commands.advance fork)) }
     {
-        let mut input = self.list[n].paused.resume();
+        let (Some(stream), Some(other)) = (self.get(n), self.get(fork)) else {
+            return Line {
+                answer: Answer::Misused(Misuse::NoStream),
+                position: Position::Missing,
+            };
+        };
+        if !stream.is_open || !other.is_open {
+            return self.line(n, Answer::Misused(Misuse::Spent));
+        }
+        if !other.is_fork() {
+            return self.line(n, Answer::Misused(Misuse::NoFork));
+        }
+        let mut input = stream.paused.resume();
         let other = self.gathered(fork);
         if input.cursor().same_scope(other.cursor()) && !self.is_or_inside(fork, n) {
             input.advance_to(other);
-            self.put(n, input.pause());
+            self.move_to(n, input.pause());
             self.end(fork);
-            Answer::Done
+            self.line(n, Answer::Done)
         } else {
             input.discard();
             other.discard();
-            Answer::Misused(Misuse::OutOfScope)
+            self.line(n, Answer::Misused(Misuse::OutOfScope))
         }
     }
 
-    /// Returns `true` if a stream is another, or was entered inside it.
+    /// Returns `true` if stream `n` is stream `outer`, or was entered inside stream `outer`.
     pub fn is_or_inside(&self, outer: usize, n: usize) -> bool
         requires { n < length (state_of self.now) }
         ensures { result ≡ is_or_inside (state_of self.now) outer n }
@@ -256,7 +333,8 @@ impl<'a> Streams<'a> {
     }
 }
 
-/// Returns the answer to a command at which a stream returned an error.
+/// Converts the error of a parser to an answer. If the error is an allocation failure, returns this
+/// failure instead.
 pub fn refused(fault: Fault) -> Result<Answer, AllocError>
     ensures { Answers fault result }
 {

@@ -1,4 +1,4 @@
-//! Tokens whose kind is known only at run time.
+//! Functions that parse a token whose kind is known only at run time.
 ghost use Rattle.std.specs.Prelude.{◌≡◌, ◌≤◌, length};
 ghost use Rattle.std.specs.Str.{chars};
 ghost use Rattle.tok_buffer.specs.Reads.{read_keyword, read_punctuation, sized};
@@ -16,12 +16,12 @@ use tok_buffer::Lifetime;
 use tok_core::{Ident, Literal, Punct};
 use tok_types::token::{keyword_text, punctuation_text};
 
-/// Parses a token of this kind.
+/// Parses a token of the given kind, and returns its pieces.
 // Each kind has a function of its own, out of line. A call clears the locals of all its arms at its
 // beginning, so it would clear those of nine kinds for each token.
 pub fn parse(input: ParseStream<'_, '_>, kind: Kind) -> Result<Vec<Piece>>
     ensures { ReadsPieces (spec.read (kind_of kind) input.old.place)
-        (spec.kind_message (kind_of kind) input.old) input.old result input.new }
+        (spec.kind_missing (kind_of kind) input.old) input.old result input.new }
 {
     match kind {
         Kind::Ident => ident(input),
@@ -40,7 +40,7 @@ pub fn parse(input: ParseStream<'_, '_>, kind: Kind) -> Result<Vec<Piece>>
 #[inline(never)]
 fn ident(input: ParseStream<'_, '_>) -> Result<Vec<Piece>>
     ensures { ReadsPieces (spec.read spec.ident input.old.place)
-        (spec.kind_message spec.ident input.old) input.old result input.new }
+        (spec.kind_missing spec.ident input.old) input.old result input.new }
 {
     let alloc = input.allocator();
     let ident = Ident::parse(input)?;
@@ -51,7 +51,7 @@ fn ident(input: ParseStream<'_, '_>) -> Result<Vec<Piece>>
 #[inline(never)]
 fn any_ident(input: ParseStream<'_, '_>) -> Result<Vec<Piece>>
     ensures { ReadsPieces (spec.read spec.ident_any input.old.place)
-        (spec.kind_message spec.ident_any input.old) input.old result input.new }
+        (spec.kind_missing spec.ident_any input.old) input.old result input.new }
 {
     let alloc = input.allocator();
     let ident = Ident::parse_any(input)?;
@@ -62,7 +62,7 @@ fn any_ident(input: ParseStream<'_, '_>) -> Result<Vec<Piece>>
 #[inline(never)]
 fn lifetime(input: ParseStream<'_, '_>) -> Result<Vec<Piece>>
     ensures { ReadsPieces (spec.read spec.lifetime input.old.place)
-        (spec.kind_message spec.lifetime input.old) input.old result input.new }
+        (spec.kind_missing spec.lifetime input.old) input.old result input.new }
 {
     let alloc = input.allocator();
     let lifetime = Lifetime::parse(input)?;
@@ -73,7 +73,7 @@ fn lifetime(input: ParseStream<'_, '_>) -> Result<Vec<Piece>>
 #[inline(never)]
 fn any_lifetime(input: ParseStream<'_, '_>) -> Result<Vec<Piece>>
     ensures { ReadsPieces (spec.read spec.lifetime_any input.old.place)
-        (spec.kind_message spec.lifetime_any input.old) input.old result input.new }
+        (spec.kind_missing spec.lifetime_any input.old) input.old result input.new }
 {
     let alloc = input.allocator();
     let lifetime = Lifetime::parse_any(input)?;
@@ -84,7 +84,7 @@ fn any_lifetime(input: ParseStream<'_, '_>) -> Result<Vec<Piece>>
 #[inline(never)]
 fn literal(input: ParseStream<'_, '_>) -> Result<Vec<Piece>>
     ensures { ReadsPieces (spec.read spec.literal input.old.place)
-        (spec.kind_message spec.literal input.old) input.old result input.new }
+        (spec.kind_missing spec.literal input.old) input.old result input.new }
 {
     let alloc = input.allocator();
     let literal = Literal::parse(input)?;
@@ -95,7 +95,7 @@ fn literal(input: ParseStream<'_, '_>) -> Result<Vec<Piece>>
 #[inline(never)]
 fn punct(input: ParseStream<'_, '_>) -> Result<Vec<Piece>>
     ensures { ReadsPieces (spec.read spec.punct input.old.place)
-        (spec.kind_message spec.punct input.old) input.old result input.new }
+        (spec.kind_missing spec.punct input.old) input.old result input.new }
 {
     let alloc = input.allocator();
     let punct = Punct::parse(input)?;

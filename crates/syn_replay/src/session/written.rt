@@ -1,38 +1,49 @@
-//! Runs commands in order over a stream, and writes the report as it goes.
-ghost use Rattle.std.specs.Prelude.{◌≡◌, ◌*◌, [], ◌++◌, IfOk, OnErr, OnOk, map, min, string_bytes, string_capacity};
+//! Runs commands in order over a buffer, and writes each line of the report once its command has
+//! run.
+ghost use Rattle.std.specs.Prelude.{◌≡◌, [], ◌++◌, IfOk, OnErr, OnOk, map, string_bytes, string_capacity};
 ghost use Rattle.std.specs.Fmt.{HasWritten, IsPlainFormatter};
 ghost use Rattle.syn_replay.specs.Commands.{command_of};
 ghost use Rattle.syn_replay.specs.Meanings.{line_of, verdict_of};
-ghost use Rattle.syn_replay.specs.ReportText.{as_line, line_text, lines_text, report_text, verdict_text};
+ghost use Rattle.syn_replay.specs.ReportText.{as_line, line_text, report_text, verdict_text};
 ghost use Rattle.syn_replay.specs.Session.Acceptance.{IsExact};
-ghost use Rattle.syn_replay.specs.Session.Stepping.{IsPlainVerdict};
-ghost use Rattle.syn_replay.specs.Session.Tracks.{state_of};
-ghost use Rattle.syn_replay.specs.Session.Walk.{last_state, lines_from, walk};
+ghost use Rattle.syn_replay.specs.Session.Promises.{IsPlainVerdict};
+ghost use Rattle.syn_replay.specs.Session.Rooms as spec;
+ghost use Rattle.syn_replay.specs.Session.Walk.{walk};
 
 use crate::command::Command;
-use crate::report::print::{write_ended, write_last};
+use crate::report::print::{write_last, write_line};
 use crate::report::{Line, Verdict};
-use crate::session::streams::{MOST_COMMANDS, Streams};
-use crate::session::{line, verdict};
+use crate::session::runner::{Receiver, run};
+use crate::session::{opened, rooms, verdict};
 use std::alloc::{AllocError, Global};
 use std::fmt::{Formatter, Write};
-use syn_parse::tokens_to_parse_buffer;
 use tok_buffer::TokenBuffer;
-use tok_core::Span;
 
-/// Writes a line and its line feed. An error of the writer counts as a failed allocation, as it does
-/// where a value is formatted.
+/// Writes each line, and then a line feed.
+impl<W: Write> Receiver for Formatter<W> {
+    ghost use Rattle.syn_replay.specs.Session.Receivers.{Writes};
+
+    ghost receives = { Writes W.write_str_gives };
+
+    fn receive(&mut self, _: &Command, line: Line) -> Result<(), AllocError> {
+        push_line(self, &line)
+    }
+}
+
+/// Writes a line of a report, and then a line feed. Returns `AllocError` if the writer fails, as
+/// `format!` does.
 pub fn push_line<W: Write>(f: &mut Formatter<W>, line: &Line) -> Result<(), AllocError>
     ensures { OnOk result (IsPlainFormatter f.old → HasWritten W.write_str_gives f.old
         (as_line (line_text (line_of line.now))) f.new) }
 {
-    match write_ended(f, line) {
+    match write_line(f, line) {
         Ok(()) => Ok(()),
         Err(_) => Err(AllocError),
     }
 }
 
-/// Writes a verdict and its line feed.
+/// Writes a verdict, and then a line feed. Returns `AllocError` if the writer fails, as `format!`
+/// does.
 pub fn push_verdict<W: Write>(f: &mut Formatter<W>, verdict: &Verdict) -> Result<(), AllocError>
     ensures { OnOk result (IsPlainFormatter f.old → HasWritten W.write_str_gives f.old
         (as_line (verdict_text (verdict_of verdict.now))) f.new) }
@@ -43,41 +54,15 @@ pub fn push_verdict<W: Write>(f: &mut Formatter<W>, verdict: &Verdict) -> Result
     }
 }
 
-// Runs commands, and writes the line of each.
-fn run<'a, W: Write>(
-    streams: &mut Streams<'a>,
-    commands: &[Command],
-    f: &mut Formatter<W>,
-) -> Result<(), AllocError>
-    ensures state { OnOk result
-        (state_of streams.new ≡ last_state (state_of streams.old) (map command_of commands.now)) }
-    ensures text { OnOk result (IsPlainFormatter f.old → HasWritten W.write_str_gives f.old
-        (lines_text (lines_from (state_of streams.old) (map command_of commands.now))) f.new) }
-{
-    for command in commands {
-        // The line stays where it was returned.
-        match &line(streams, command) {
-            Ok(line) => push_line(f, line)?,
-            Err(_) => return Err(AllocError),
-        }
-    }
-    Ok(())
-}
-
-/// Returns a string with room for the report on so many commands, of up to 65,536. Most lines have
-/// fewer than 24 bytes.
-pub fn report_room(alloc: Global, commands: usize) -> Result<String, AllocError>
-    ensures bytes { IfOk result (λ text. string_bytes text ≡ []) }
-    ensures room { IfOk result (λ text. string_capacity text ≡ min commands 65536 * 24) }
-{
-    String::with_capacity(alloc, commands.min(MOST_COMMANDS) * 24)
-}
-
-/// Runs the commands over a buffer, as `replay_in` does, and appends the text of the report to
-/// `text`. Each line is written once its command has run, and no line is kept.
+/// Runs the commands over a buffer, appends the text of the report to `text`, and returns the
+/// verdict.
 ///
-/// Returns the verdict. If an allocation fails, it returns an error, and `text` is unchanged. The
-/// report is copied to the end of `text`, and replaces an empty one with its room.
+/// The text shows the report that `replay_in` returns. The function writes each line once its
+/// command has run, instead of storing the lines. It writes the lines to a new string, and copies
+/// this string to the end of `text`. If `text` is empty, the new string and its capacity replace
+/// it.
+///
+/// Returns an error if an allocation fails. In that case, `text` is unchanged.
 ///
 /// # Requires
 ///
@@ -126,13 +111,20 @@ fn written(
         ≡ (walk buffer.now.forest (map command_of commands.now)).verdict) }
     ensures errors { IfOk result (λ r. IsPlainVerdict r.1) }
 {
-    let whole = tokens_to_parse_buffer(alloc, buffer, Span::call_site());
-    let mut streams = Streams::new(alloc, whole.pause(), commands.len())?;
+    let mut streams = opened(alloc, buffer, commands.len())?;
     let mut f = Formatter::new(report_room(alloc, commands.len())?);
     run(&mut streams, commands, &mut f)?;
     let verdict = verdict(&streams)?;
     push_verdict(&mut f, &verdict)?;
     Ok((f.into_inner(), verdict))
+}
+
+/// Returns an empty string with room for the report on this many commands.
+pub fn report_room(alloc: Global, commands: usize) -> Result<String, AllocError>
+    ensures bytes { IfOk result (λ text. string_bytes text ≡ []) }
+    ensures room { IfOk result (λ text. string_capacity text ≡ spec.report_room commands) }
+{
+    String::with_capacity(alloc, rooms::bytes(commands))
 }
 
 // Appends a text. If there is none yet, it is taken as it is.

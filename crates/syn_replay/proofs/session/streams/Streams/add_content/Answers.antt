@@ -5,11 +5,11 @@ use Rattle.std.proofs.lemmas.List.{map-append}
 use Rattle.std.specs.Prelude.{OnErr, Result}
 use Rattle.syn_parse.specs.Pauses.{paused_state}
 use Rattle.syn_replay.specs.Session.Links.{AreListed}
-use Rattle.syn_replay.specs.Session.State.{with_stream, put}
+use Rattle.syn_replay.specs.Session.State.{with_stream, moved_as}
 use Rattle.syn_replay.specs.Session.Stream.{stream_of, state_of_list}
 use Rattle.syn_replay.specs.declared.session.stream.Stream.{Stream}
-use Rattle.syn_replay.proofs.Walk.Links.{content_listed, listed_set}
-use Rattle.syn_replay.proofs.Walk.Tracks.{changed_there, length-state}
+use Rattle.syn_replay.proofs.Walk.Links.{listed_with_content, listed_set}
+use Rattle.syn_replay.proofs.Walk.Streams.{changed_there, length-state}
 use Rattle.syn_replay.proofs.session.streams.Streams.add_content.Goals as goal
 
 on_err : {T E : Type 0} (r : Result T E) (P : Type 0) → P → OnErr r P
@@ -62,7 +62,7 @@ invariant_of-self-2 c =
           );
       listed =
           subst AreListed (sym c.push_reserved.ensures.items)
-          (content_listed ys n x z c.new.result (subst AreListed (sym same) s.listed)
+          (listed_with_content ys n x z c.new.result (subst AreListed (sym same) s.listed)
           c.index_mut-stream.ensures.value (omega (arith, len, c.requires, length-state xs)) refl
           refl
           ((c.in_ok-push.ensures {u = tt}).items
@@ -78,7 +78,7 @@ returns-clause-ok c =
     let same : ys ≡ xs = c.reserve.ensures.items in
     let x = c.index_mut-stream.result.now in
     let z : Stream = record x { paused = c.args.parent; contents = c.push.new.self } in
-    let f = put (paused_state c.args.parent) in
+    let f = moved_as (paused_state c.args.parent) in
     let within : n < length ys = omega (arith, ap length same, c.requires, length-state xs) in
     ap state_of_list c.push_reserved.ensures.items
     ∙ map-append stream_of (set ys n z) (c.new.result ∷ [])

@@ -1,54 +1,76 @@
-use Rattle.std.proofs.Common.{◌∙◌, ◌<◌, ap, length, arith}
+use Rattle.std.proofs.Common.{◌≡◌, ◌∙◌, ℕ, ◌<◌, ap, refl, sym, length, Some, None, arith}
+use Rattle.std.specs.Prelude.{cond, Option}
 use Rattle.syn_parse.specs.Pauses.{paused_state}
 use Rattle.syn_parse.specs.State as parse
-use Rattle.syn_replay.specs.Session.State.{stream_ended, handed_note, is_open_at}
+use Rattle.syn_replay.specs.Commands as commands
+use Rattle.syn_replay.specs.Session.State.{content_of, is_open_at, kind_at, parse_state, stream_ended}
+use Rattle.syn_replay.specs.Session.Step.{is_content}
 use Rattle.syn_replay.specs.Session.Stream.{stream_kind, stream_of}
-use Rattle.syn_replay.specs.Session.Tracks.{state_of}
-use Rattle.syn_replay.proofs.Walk.Closing.{closes_alone, closes_into, gathered_is, open_length}
-use Rattle.syn_replay.proofs.Walk.Closing.{open_put}
-use Rattle.syn_replay.proofs.Walk.Links.{parent_below}
-use Rattle.syn_replay.proofs.Walk.Tracks.{length-state, noted_apart, stream_there}
+use Rattle.syn_replay.specs.Session.Streams.{state_of}
+use Rattle.syn_replay.specs.declared.report.Answer.TheVariants as answer
+use Rattle.syn_replay.specs.declared.report.Misuse.{Misuse}
+use Rattle.syn_replay.specs.declared.report.Misuse.TheVariants.{NoContent}
+use Rattle.syn_replay.specs.declared.session.stream.Stream.{Stream}
+use Rattle.syn_replay.specs.declared.session.streams.Streams.{Streams}
+use Rattle.syn_replay.proofs.Walk.Changes.{open_within}
+use Rattle.syn_replay.proofs.Walk.Closing.{closes_into, open_moved}
+use Rattle.syn_replay.proofs.Walk.Lines.{line_done}
+use Rattle.syn_replay.proofs.Walk.Links.{above_listed}
+use Rattle.syn_replay.proofs.Walk.Streams.{length-state, stream_there}
+use Rattle.syn_replay.specs.Session.Promises.{IsOpen}
 use Rattle.syn_replay.proofs.session.streams.Streams.close.Goals as goal
-use Rattle.syn_replay.proofs.session.streams.Streams.close.Goals.{in-Some, in_default}
+
+-- an open content has a parent with a lower number
+module _ (s : Streams) (n p : ℕ) (x : Stream) (here : IsOpen (state_of s) n (stream_of x))
+    (is : x.parent ≡ Some p) where
+  kind : kind_at (state_of s) n ≡ content_of p
+  kind = ap (λ z. z.kind) here.0 ∙ ap (stream_kind x.is_fork) is
+
+  parent_there : p < length (state_of s)
+  parent_there =
+      let below = above_listed s.list.items s.listed n p kind in
+      let low = open_within (state_of s) n (ap (λ z. z.is_open) here.0 ∙ here.1) in
+      omega (arith, below, low)
+
+pub index-requires : goal.index-requires
+index-requires c =
+    let s = c.args.self.now in
+    let low =
+    parent_there s c.args.n c.in-Some.parent c.in-Ok.stream.now (c.in-Ok.ensures {u = tt})
+    c.in-Some.is in
+    omega (arith, s.list.ok.0, low, length-state s.list.items)
+
+pub move_to-requires : goal.move_to-requires
+move_to-requires c =
+    parent_there c.args.self.now c.args.n c.in-Some.parent c.in-Ok.stream.now
+    (c.in-Ok.ensures {u = tt}) c.in-Some.is
 
 pub end-requires : goal.end-requires
 end-requires c =
-    let st = state_of c.args.self.now in
-    let k = c.args.k in
-    elim c.match-index.branch [
-      | in-Some w ↦
-          ap (λ z. is_open_at (state_of z) k) w.self-is ∙ ap (λ z. is_open_at z k) w.put.ensures
-          ∙ open_put st w.in-Some.parent k (paused_state w.pause.result) ∙ c.requires
-      | in_default w ↦ ap (λ z. is_open_at (state_of z) k) w.self-is ∙ c.requires
-    ]
+    let (here, is_open) = c.in-Ok.ensures {u = tt} in
+    ap (λ z. is_open_at z c.args.n) c.move_to.ensures
+    ∙ open_moved (state_of c.args.self.now) c.in-Some.parent c.args.n (paused_state c.pause.result)
+    ∙ ap (λ z. z.is_open) here ∙ is_open
 
 pub returns : goal.returns
 returns c =
     let s = c.args.self.now in
     let xs = s.list.items in
     let st = state_of s in
-    let k = c.args.k in
-    let x = c.index.result.now in
-    let low = open_length st k c.requires in
-    let within : k < length xs = omega (arith, low, length-state xs) in
-    let here = stream_there xs k x c.index.ensures within in
-    c.end.ensures
-    ∙ elim c.match-index.branch [
-      | in-Some w ↦
-          let p = w.in-Some.parent in
-          let y = w.index-in-Some.result.now in
-          let content = w.gathered-content.result in
-          let below = parent_below xs k p x s.listed c.index.ensures within w.in-Some.is in
-          let there : p < length xs = omega (arith, below, within) in
-          ap (λ z. stream_ended k (state_of z)) w.self-is ∙ ap (stream_ended k) w.put.ensures
-          ∙ closes_into st k (stream_of x) here p (stream_of y) content
-          (paused_state w.pause.result) (ap (stream_kind x.is_fork) w.in-Some.is)
-          (stream_there xs p y w.index-in-Some.ensures there)
-          (gathered_is st k (stream_of x) content here w.gathered-content.ensures)
-          (w.pause.ensures ∙ w.close.ensures.closes
-          ∙ ap (parse.closed content) w.resume-input.ensures)
-      | in_default w ↦
-          ap (λ z. stream_ended k (state_of z)) w.self-is
-          ∙ closes_alone st k (stream_of x) here
-          (noted_apart x.is_fork x.parent (handed_note st k (stream_of x)) st w.in_default.is)
-    ]
+    let n = c.args.n in
+    let p = c.in-Some.parent in
+    let x = c.in-Ok.stream.now in
+    let here = c.in-Ok.ensures {u = tt} in
+    let of_parent = kind s n p x here c.in-Some.is in
+    let content = c.gathered-content.result in
+    let within = parent_there s n p x here c.in-Some.is in
+    let there =
+    stream_there xs p c.index.result.now c.index.ensures (omega (arith, within, length-state xs)) in
+    line_done n st commands.close refl (stream_of x) here
+    (ap (λ k. cond {A = Option Misuse} (is_content k) None (Some NoContent)) of_parent)
+    answer.Done c.line-2.result (state_of c.end.new.self) c.line-2.ensures.answer (refl, tt)
+    (c.end.ensures ∙ ap (stream_ended n) c.move_to.ensures
+    ∙ closes_into st n p content (paused_state c.pause.result) of_parent c.gathered-content.ensures
+    (c.pause.ensures ∙ c.close.ensures.closes
+    ∙ ap (parse.closed content) (c.resume-input.ensures ∙ ap parse_state (sym there))))
+    c.line-2.ensures.position

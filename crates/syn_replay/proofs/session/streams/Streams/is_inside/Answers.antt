@@ -1,6 +1,6 @@
 use Rattle.std.proofs.Common.{arith}
 use Rattle.syn_replay.proofs.Walk.Inside.{falls, look_first, look_on}
-use Rattle.syn_replay.proofs.Walk.Tracks.{length-state}
+use Rattle.syn_replay.proofs.Walk.Streams.{length-state}
 use Rattle.syn_replay.proofs.session.streams.Streams.is_inside.Goals as goal
 
 pub loop-next-init : goal.loop-next-init

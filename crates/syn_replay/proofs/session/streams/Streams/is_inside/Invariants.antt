@@ -1,5 +1,5 @@
 use Rattle.syn_replay.specs.Session.State.{is_inside}
-use Rattle.syn_replay.specs.Session.Tracks.{state_of}
+use Rattle.syn_replay.specs.Session.Streams.{state_of}
 use Rattle.syn_replay.proofs.Walk.Inside.{LeftToLook, above}
 use Rattle.syn_replay.proofs.session.streams.Streams.is_inside.Given as goal
 

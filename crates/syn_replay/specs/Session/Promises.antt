@@ -1,18 +1,14 @@
 -- What the parts of a replay promise.
-use Rattle.std.specs.Prelude.{◌≡◌, ℕ, List, map, Option, Some, None, Result, Ok, Err}
+use Rattle.std.specs.Prelude.{◌≡◌, ℕ, true, false, List, [], ◌∷◌, Result, Ok, Err}
 use Rattle.std.specs.List.{All}
-use Rattle.std.specs.Option.{option_map}
-use Rattle.syn_parse.specs.State as parse
 use Rattle.std.specs.declared.alloc.AllocError.{AllocError}
 use Rattle.syn_parse.specs.declared.fault.Fault.{Fault}
 use Rattle.syn_parse.specs.declared.fault.Fault.TheVariants.{Refused, Memory}
+use Rattle.syn_replay.specs.Commands as commands
 use Rattle.syn_replay.specs.Commands.{command_of}
 use Rattle.syn_replay.specs.Reports as reports
-use Rattle.syn_replay.specs.Reports.{Position, missing}
-use Rattle.syn_replay.specs.Session.State.{AllStreams, at_rest, gathered, printed_position}
-use Rattle.std.specs.List.{slice_get}
-use Rattle.syn_replay.specs.Session.Step.{Stepped, step, line}
-use Rattle.syn_replay.specs.Session.Walk.{lines_from, last_state}
+use Rattle.syn_replay.specs.Session.State.{AllStreams, Stream, stream_at}
+use Rattle.syn_replay.specs.Session.Step.{Stepped, is_unknown, step, line}
 use Rattle.tok_buffer.specs.Messages.{first_message}
 use Rattle.syn_replay.specs.Meanings.{IsAnswer, IsPlain, answer_of, line_of}
 use Rattle.syn_replay.specs.Meanings.{IsOneMessage}
@@ -27,20 +23,21 @@ abbrev pub IsStepped : Answer → AllStreams → Stepped → Type 0
 IsStepped a st s = IsAnswer a s.answer × (st ≡ s.state)
 
 -- the line and the new state are those of a command
-abbrev pub IsLine : Line → AllStreams → AllStreams → Command → Type 0
+abbrev pub IsLine : Line → (new old : AllStreams) → commands.Command → Type 0
 IsLine l new old c =
-    (line_of l ≡ line (command_of c) old) × IsPlain l.answer
-    × (new ≡ (step (command_of c) old).state)
+    (line_of l ≡ line c old) × IsPlain l.answer × (new ≡ (step c old).state)
 
 -- all errors are of one message
 abbrev pub ArePlain : List Line → Type 0
 ArePlain ls = All (λ l. IsPlain l.answer) ls
 
--- the lines and the new state are those of commands in order
-abbrev pub HasRun : List Line → AllStreams → AllStreams → List Command → Type 0
-HasRun ls new old cs =
-    (map line_of ls ≡ lines_from old (map command_of cs)) × ArePlain ls
-    × (new ≡ last_state old (map command_of cs))
+module _ {R : Type 0} (receives : R → Command → Line → R → Type 0) where
+  -- each line is that of its command, and is received in turn
+  abbrev pub AreReceived : AllStreams → List Command → R → R → Type 0
+  AreReceived st [] r last = last ≡ r
+  AreReceived st (c ∷ cs) r last =
+      (l : Line) × (next : R) × (line_of l ≡ line (command_of c) st) × IsPlain l.answer
+      × receives r c l next × AreReceived (step (command_of c) st).state cs next last
 
 -- a stream's fault as an answer: its error, or an allocation failure
 abbrev pub Answers : Fault → Result Answer AllocError → Type 0
@@ -55,10 +52,10 @@ abbrev pub IsPlainVerdict : Verdict → Type 0
 IsPlainVerdict verdict.Accepted = Unit {0}
 IsPlainVerdict (verdict.Refused e) = IsOneMessage e
 
--- the position of a stream
-abbrev pub stands : AllStreams → ℕ → Position
-stands st n = elim (slice_get st n) [ None ↦ missing | Some s ↦ printed_position s.place ]
+-- stream n is this one
+abbrev pub IsStream : AllStreams → ℕ → Stream → Type 0
+IsStream st n s = (is_unknown st n ≡ false) × (stream_at st n ≡ s)
 
--- a stream once its contents are closed
-abbrev pub gathered_at : AllStreams → ℕ → Option parse.State
-gathered_at st n = option_map (λ s. at_rest (gathered st n s)) (slice_get st n)
+-- stream n is this one, and open
+abbrev pub IsOpen : AllStreams → ℕ → Stream → Type 0
+IsOpen st n s = (stream_at st n ≡ s) × (s.is_open ≡ true)
