@@ -1,16 +1,19 @@
 pub use Rattle.tok_lexical.specs.Delimiters as DelimiterTexts
 pub use Rattle.tok_lexical.specs.Editions
 pub use Rattle.tok_lexical.specs.Errors as LexErrors
+pub use Rattle.tok_lexical.specs.QuotedFaults
 pub use Rattle.tok_lexical.specs.RawQuotes
 pub use Rattle.tok_lexical.specs.Rules
 pub use Rattle.tok_lexical.specs.Words
 pub use Rattle.tok_leaves.specs.IdentFaults
+pub use Rattle.tok_leaves.specs.IntegerTypes
 pub use Rattle.tok_leaves.specs.Laws as LeafLaws
 pub use Rattle.tok_leaves.specs.Leaves
 pub use Rattle.tok_leaves.specs.Lifetimes
 pub use Rattle.tok_leaves.specs.Literals
 pub use Rattle.tok_leaves.specs.Quoting
 pub use Rattle.tok_leaves.specs.Spans as Spans
+pub use Rattle.tok_values.specs.CStrings
 pub use Rattle.tok_values.specs.Escapes
 pub use Rattle.tok_values.specs.Floats as FloatValues
 pub use Rattle.tok_values.specs.Integers
@@ -18,7 +21,9 @@ pub use Rattle.tok_values.specs.Laws as ValueLaws
 pub use Rattle.tok_values.specs.Numbers as NumberValues
 pub use Rattle.tok_values.specs.RawStrings
 pub use Rattle.tok_values.specs.Strings as StringValues
+pub use Rattle.tok_values.specs.Suffixed
 pub use Rattle.tok_values.specs.Suffixes
+pub use Rattle.tok_values.specs.TypedNumbers
 pub use Rattle.tok_values.specs.Values
 pub use Rattle.tok_core.specs.Clear
 pub use Rattle.tok_core.specs.Erase
@@ -31,6 +36,7 @@ pub use Rattle.tok_core.specs.Spanless
 pub use Rattle.tok_core.specs.Text
 pub use Rattle.tok_core.specs.Weight
 pub use Rattle.tok_pruned.specs.Pruned
+pub use Rattle.tok_entries.specs.Blames
 pub use Rattle.tok_entries.specs.Denotes
 pub use Rattle.tok_entries.specs.Entries
 pub use Rattle.tok_entries.specs.Refusals
@@ -99,6 +105,7 @@ pub use Rattle.syn_parse.specs.TreesAhead
 pub use Rattle.syn_parse.specs.Views as ParseViews
 pub use Rattle.syn_parse.specs.Weighing
 pub use Rattle.syn_literals.specs.Kinds as LiteralKinds
+pub use Rattle.syn_literals.specs.Signed as SignedValues
 pub use Rattle.syn_literals.specs.TakeLiterals
 pub use Rattle.syn_literals.specs.TextValues
 pub use Rattle.syn_punctuated.specs.Adds
@@ -119,6 +126,7 @@ pub use Rattle.syn_punctuated.specs.Trees as ListTrees
 pub use Rattle.syn_punctuated.specs.Turns as ListTurns
 pub use Rattle.syn_punctuated.specs.Weighing as ListWeighing
 pub use Rattle.syn_choices.specs.Attempts
+pub use Rattle.syn_choices.specs.CallLoops
 pub use Rattle.syn_choices.specs.Choices
 pub use Rattle.syn_choices.specs.Peeks
 pub use Rattle.syn_replay.specs.Agree

@@ -1,6 +1,8 @@
-//! Laws. Each is the contract of a function that does nothing, or nearly nothing: a proof that calls
-//! it may use the law. The last ones use what this crate passes on, by its name, so that names of the
-//! same form cannot change places.
+//! Laws that proofs can use. Each law is the contract of a function that does nothing, or that
+//! makes a single call. A proof uses a law by calling its function.
+//!
+//! The last laws call items that this crate re-exports. They ensure that each of these items has
+//! the right name.
 ghost use Rattle.std.specs.Prelude.{◌≡◌, ℕ, List, IfOk, codes, map};
 ghost use Rattle.std.specs.Str.{chars};
 ghost use Rattle.tok_lexical.specs.declared.delimiter.Delimiter.TheVariants.{Brace, Bracket, Parenthesis};
@@ -12,6 +14,7 @@ ghost use Rattle.tok_core.specs.Lexical.Outcome.{FollowsGrammar};
 ghost use Rattle.tok_pruned.specs.Pruned.{pruned};
 ghost use Rattle.syn_parse.specs.Parsers.{ParsesWhole, whole_stream};
 ghost use Rattle.syn_parse.specs.Takes.{EntersAhead};
+ghost use Rattle.syn_parse.specs.Takings.{Keeps};
 ghost use Rattle.syn_parse.specs.Skips.{second_sees};
 ghost use Rattle.syn_choices.specs.Peeks.{both_see, either_sees, not_sees};
 ghost use Rattle.syn_replay.specs.Commands.{command_of};
@@ -22,6 +25,8 @@ use crate::LitBool;
 use crate::LitFloat;
 use crate::LitInt;
 use crate::LitStr;
+use crate::SignedFloat;
+use crate::SignedInt;
 use crate::parse::NotNext;
 use crate::parse::OneOf;
 use crate::parse::Then;
@@ -101,6 +106,7 @@ pub use tok_core::laws::clones_keep_rules;
 pub use tok_core::laws::clones_keep_trees;
 pub use tok_core::laws::editions_by_year;
 pub use tok_core::laws::errors_are_compared_whole;
+pub use tok_core::laws::errors_explained_once;
 pub use tok_core::laws::forest_once;
 pub use tok_core::laws::ident_faults_tell;
 pub use tok_core::laws::idents_by_text;
@@ -112,9 +118,11 @@ pub use tok_core::laws::spans_are_compared_whole;
 pub use tok_core::laws::streams_without_spans;
 pub use tok_core::laws::trees_without_spans;
 pub use tok_core::laws::writes_follow_writes;
+pub use tok_entries::laws::blamed_once;
 pub use tok_entries::laws::clones_keep_entries;
 pub use tok_entries::laws::denoted_once;
 pub use tok_entries::laws::entries_are_compared_whole;
+pub use tok_lexical::laws::quoted_faults_tell;
 pub use tok_pruned::laws::filled_forests_stay;
 pub use tok_pruned::laws::pruning_again_changes_nothing;
 pub use tok_pruned::laws::pruning_fills;
@@ -136,17 +144,29 @@ pub use tok_types::laws::tokens_ignore_invisible;
 pub use tok_types::laws::underscores_are_equal;
 use tok_types::token;
 use tok_types::token::Token;
+pub use tok_values::laws::byte_characters_are_read;
 pub use tok_values::laws::byte_strings_are_read;
+pub use tok_values::laws::c_strings_are_read;
+pub use tok_values::laws::c_strings_have_values;
+pub use tok_values::laws::c_strings_mean_their_strings;
 pub use tok_values::laws::characters_are_read;
+pub use tok_values::laws::characters_have_values;
 pub use tok_values::laws::clones_keep_integers;
-pub use tok_values::laws::integer_faults_are_compared_whole;
+pub use tok_values::laws::doc_comments_are_read;
+pub use tok_values::laws::floats_have_their_value;
+pub use tok_values::laws::integers_are_read;
+pub use tok_values::laws::literals_have_one_value;
+pub use tok_values::laws::numbers_alone_have_floats;
 pub use tok_values::laws::strings_are_read;
+pub use tok_values::laws::strings_have_values;
 pub use tok_values::laws::strings_keep_text;
 pub use tok_values::laws::suffixes_follow_the_grammar;
+pub use tok_values::laws::value_faults_are_compared_whole;
+pub use tok_values::laws::values_agree_without_a_suffix;
 pub use tok_values::laws::values_are_functions;
 pub use visible_replay::laws::visible_tokens_decide;
 
-/// `lex` reads a text of tokens, without marks.
+/// `lex` reads a text by the grammar in which `«` and `»` do not stand for invisible groups.
 pub fn lex_reads_texts(
     alloc: Global,
     source: u32,
@@ -157,7 +177,8 @@ pub fn lex_reads_texts(
     crate::lex(alloc, source, text)
 }
 
-/// `lex_marked` reads a text with marks of invisible groups.
+/// `lex_marked` reads a text by the grammar in which `«` opens an invisible group and `»` closes
+/// it.
 pub fn lex_marked_reads_marks(
     alloc: Global,
     source: u32,
@@ -168,35 +189,39 @@ pub fn lex_marked_reads_marks(
     crate::lex_marked(alloc, source, text)
 }
 
-/// `is_filled` tells whether each invisible group contains a visible tree.
+/// `is_filled` returns `true` if and only if each invisible group of the stream contains a visible
+/// token.
 pub fn is_filled_tells_groups(stream: &TokenStream) -> bool
     ensures { result ≡ filled stream.now }
 {
     crate::is_filled(stream)
 }
 
-/// `is_clear` tells whether no joint apostrophe is directly before an edge of an invisible group.
+/// `is_clear` returns `true` if and only if no joint apostrophe of the stream is directly before a
+/// delimiter of an invisible group.
 pub fn is_clear_tells_apostrophes(stream: &TokenStream) -> bool
     ensures { result ≡ clear stream.now }
 {
     crate::is_clear(stream)
 }
 
-/// `parse2` parses the tokens as they are.
+/// `parse2` parses a token stream without removing any invisible group.
 pub fn parse2_keeps_all_groups<T: Parse + Drop>(alloc: Global, tokens: TokenStream) -> Result<T>
     ensures { ParsesWhole T.parses (whole_stream tokens call_site) result }
 {
     crate::parse2(alloc, tokens)
 }
 
-/// `parse_visible` parses the tokens without the invisible groups that contain nothing visible.
+/// `parse_visible` removes the invisible groups that contain no visible token from a token stream,
+/// and parses the remaining stream.
 pub fn parse_visible_prunes<T: Parse + Drop>(alloc: Global, tokens: TokenStream) -> Result<T>
     ensures { ParsesWhole T.parses (whole_stream (pruned tokens) call_site) result }
 {
     crate::parse_visible(alloc, tokens)
 }
 
-/// `parse_both` parses two streams as they are, in order.
+/// `parse_both` parses two token streams without removing any invisible group, and returns the
+/// results in the same order.
 pub fn parse_both_keeps_all_groups(
     alloc: Global,
     left: TokenStream,
@@ -208,8 +233,8 @@ pub fn parse_both_keeps_all_groups(
     crate::parse_both(alloc, left, right)
 }
 
-/// `parse_visible_both` parses two streams without the invisible groups that contain nothing
-/// visible, in order.
+/// `parse_visible_both` removes the invisible groups that contain no visible token from two token
+/// streams, and parses the remaining streams. It returns the results in the same order.
 pub fn parse_visible_both_prunes(
     alloc: Global,
     left: TokenStream,
@@ -223,7 +248,7 @@ pub fn parse_visible_both_prunes(
     crate::parse_visible_both(alloc, left, right)
 }
 
-/// `replay` walks over the stream as it is.
+/// `replay` runs commands over a token stream without removing any invisible group.
 pub fn replay_keeps_all_groups(
     alloc: Global,
     stream: TokenStream,
@@ -234,8 +259,8 @@ pub fn replay_keeps_all_groups(
     crate::replay(alloc, stream, commands)
 }
 
-/// `visible_replay` walks over the stream without the invisible groups that contain nothing
-/// visible.
+/// `visible_replay` removes the invisible groups that contain no visible token from a token stream,
+/// and runs commands over the remaining stream.
 pub fn visible_replay_prunes(
     alloc: Global,
     stream: TokenStream,
@@ -247,7 +272,8 @@ pub fn visible_replay_prunes(
     crate::visible_replay(alloc, stream, commands)
 }
 
-/// `replay_both` walks over two streams as they are, in order.
+/// `replay_both` runs commands over two token streams without removing any invisible group, and
+/// returns the reports in the same order.
 pub fn replay_both_keeps_all_groups(
     alloc: Global,
     left: TokenStream,
@@ -260,8 +286,8 @@ pub fn replay_both_keeps_all_groups(
     crate::replay_both(alloc, left, right, commands)
 }
 
-/// `visible_replay_both` walks over two streams without the invisible groups that contain nothing
-/// visible, in order.
+/// `visible_replay_both` removes the invisible groups that contain no visible token from two token
+/// streams, and runs commands over the remaining streams. It returns the reports in the same order.
 pub fn visible_replay_both_prunes(
     alloc: Global,
     left: TokenStream,
@@ -276,7 +302,7 @@ pub fn visible_replay_both_prunes(
     crate::visible_replay_both(alloc, left, right, commands)
 }
 
-/// `parenthesized!` enters parentheses.
+/// `parenthesized!` enters the next group if its delimiters are parentheses.
 pub fn parenthesized_enters_parentheses<'a>(
     input: ParseStream<'_, 'a>,
 ) -> Result<(token::Paren, ParseBuffer<'a>)>
@@ -287,7 +313,7 @@ pub fn parenthesized_enters_parentheses<'a>(
     Ok((token, content))
 }
 
-/// `braced!` enters braces.
+/// `braced!` enters the next group if its delimiters are braces.
 pub fn braced_enters_braces<'a>(
     input: ParseStream<'_, 'a>,
 ) -> Result<(token::Brace, ParseBuffer<'a>)>
@@ -298,7 +324,7 @@ pub fn braced_enters_braces<'a>(
     Ok((token, content))
 }
 
-/// `bracketed!` enters brackets.
+/// `bracketed!` enters the next group if its delimiters are brackets.
 pub fn bracketed_enters_brackets<'a>(
     input: ParseStream<'_, 'a>,
 ) -> Result<(token::Bracket, ParseBuffer<'a>)>
@@ -309,8 +335,9 @@ pub fn bracketed_enters_brackets<'a>(
     Ok((token, content))
 }
 
-/// `LitStr`, `LitInt`, `LitFloat` and `LitBool` are literals of these kinds, by their names in
-/// errors.
+/// In error messages, a `LitStr` is called `string literal`, a `LitInt` is called `integer
+/// literal`, and a `LitFloat` is called `floating point literal`. A `LitBool` is called `boolean
+/// literal`.
 pub fn literals_have_their_kinds()
     ensures strings { (name : List ℕ) → ⟦<LitStr as Token>⟧.shown name
         → name ≡ codes "string literal" }
@@ -322,7 +349,25 @@ pub fn literals_have_their_kinds()
         → name ≡ codes "boolean literal" }
 {}
 
-/// `Then` looks for two tokens in turn, `OneOf` for one of the two, and `NotNext` for another one.
+/// The parser of `SignedInt` reads an optional minus sign and an integer literal.
+pub fn signed_ints_take_integers(input: ParseStream<'_, '_>) -> Result<SignedInt>
+    ensures { Keeps ⟦<(Option<token::Minus>, syn_literals::LitInt) as Parse>⟧.takes
+        input.old result input.new }
+{
+    input.parse()
+}
+
+/// The parser of `SignedFloat` reads an optional minus sign and a floating-point literal.
+pub fn signed_floats_take_floats(input: ParseStream<'_, '_>) -> Result<SignedFloat>
+    ensures { Keeps ⟦<(Option<token::Minus>, syn_literals::LitFloat) as Parse>⟧.takes
+        input.old result input.new }
+{
+    input.parse()
+}
+
+/// A peek for `Then<A, B>` returns `true` if `A` is next and `B` comes after the next token. A peek
+/// for `OneOf<A, B>` returns `true` if `A` or `B` is next. A peek for `NotNext<A>` returns `true`
+/// if `A` is not next.
 pub fn peeks_have_their_meanings<A: Token, B: Token>()
     ensures in_turn { ⟦<Then<A, B> as Token>⟧.sees ≡ both_see A.sees (second_sees B.sees) }
     ensures either { ⟦<OneOf<A, B> as Token>⟧.sees ≡ either_sees A.sees B.sees }

@@ -1,11 +1,15 @@
-//! The front of the library: the public items of all crates below, under the paths of `syn`, so
-//! that a user depends on one crate. The definitions of the crates below are in `specs/`, under
+//! Tokens, token buffers and parse streams, with the names and paths of the crate `syn`.
+//!
+//! This crate re-exports the public items of the crates that implement the library, so that a user
+//! depends on only one crate. Its `specs/` folder re-exports the definitions of these crates under
 //! their names.
 #![tactic(auto)]
 
 pub mod laws;
 
-pub use syn_literals::{LitBool, LitFloat, LitInt, LitStr};
+pub use syn_literals::{
+    LitBool, LitFloat, LitInt, LitStr, SignedFloat, SignedInt, signed_float_value, signed_int_value,
+};
 pub use syn_parse::{
     Fault, Own, Result, Word, parse_both, parse_source, parse_str, parse_text, parse2, parsing,
 };
@@ -17,38 +21,39 @@ pub use syn_replay::{
 };
 pub use tok_buffer::{Error, Lifetime, LifetimeFault, error};
 pub use tok_core::{
-    DelimSpan, Delimiter, Edition, Group, Ident, IdentFault, LexError, LexFault, Literal,
-    LiteralFault, MakeFault, Punct, Spacing, Span, Text, ToTokens, TokenStream, TokenStreamHelper,
-    TokenTree, TokenTreeHelper, is_clear, is_filled, lex, lex_marked, lex_source, same_visible,
+    DelimSpan, Delimiter, Edition, Group, Ident, IdentFault, IntegerType, LexError, LexFault,
+    Literal, LiteralFault, MakeFault, Punct, Spacing, Span, Text, ToTokens, TokenStream,
+    TokenStreamHelper, TokenTree, TokenTreeHelper, is_clear, is_filled, lex, lex_marked,
+    lex_source, same_visible,
 };
 pub use tok_pruned::prune;
 pub use tok_types::{accept_as_ident, token};
 pub use visible_parse::{parse_visible, parse_visible_both, parse_visible_with};
 pub use visible_replay::{visible_replay, visible_replay_both};
 
-/// Token buffers and cursors.
+/// Token buffers, and cursors over the tokens of a buffer.
 pub mod buffer {
     pub use tok_buffer::{Cursor, LifetimeRef, TokenBuffer};
 }
 
-/// Streams as arrays of plain structs, as C and a compiler's macros see them.
+/// Token streams as arrays of plain structs, for callers in C and for procedural macros.
 pub mod entries {
     pub use tok_entries::{Entry, EntryFault, LexedEntries, Refusal, write_entries};
 }
 
-/// Identifiers and lifetimes of any text.
+/// Extension traits for identifiers, lifetimes and literals.
 pub mod ext {
     pub use syn_parse::{IdentExt, LifetimeExt};
     pub use tok_types::IdentAny;
-    pub use tok_values::{Integer, IntegerFault, LiteralExt, bool_value};
+    pub use tok_values::{Integer, IntegerFault, LiteralExt, NumberFault, bool_value};
 }
 
-/// Errors with the line that they are about.
+/// Types that display an error together with the line that the error is about.
 pub mod carets {
-    pub use tok_carets::{LineColumn, LineIndex, Source, line_column};
+    pub use tok_carets::{IndexedSource, LineColumn, LineIndex, Source, line_column};
 }
 
-/// Parsers that enter groups.
+/// Functions that enter a group and return a stream of its contents.
 pub mod group {
     pub use syn_parse::{
         Braces, Brackets, Delimited, Group, Parens, parse_braces, parse_brackets, parse_group,
@@ -56,7 +61,7 @@ pub mod group {
     };
 }
 
-/// Parse streams, and the traits of parsers.
+/// Parse streams, and traits for types and functions that parse tokens from a stream.
 pub mod parse {
     pub use syn_choices::{Either, NotNext, OneOf, ParseBufferExt, Then};
     pub use syn_parse::{
@@ -67,8 +72,10 @@ pub mod parse {
     pub use tok_types::End;
 }
 
-/// Enters parentheses: returns their token, and puts the stream of their contents into a variable
-/// that is declared before. The function around it must return a `Result`, since it uses `?`.
+/// Enters the next group, which must be in parentheses, and returns the token of its parentheses.
+///
+/// The macro stores a stream of the group's contents in a variable, which must be declared before
+/// the call. The enclosing function must return a `Result`, because the macro uses `?`.
 #[macro_export]
 macro_rules! parenthesized {
     ($content:ident in $input:expr) => {{
@@ -79,7 +86,9 @@ macro_rules! parenthesized {
     }};
 }
 
-/// Enters braces, as `parenthesized!` does parentheses.
+/// Enters the next group, which must be in braces, and returns the token of its braces.
+///
+/// The macro stores a stream of the group's contents in the same way as `parenthesized!`.
 #[macro_export]
 macro_rules! braced {
     ($content:ident in $input:expr) => {{
@@ -90,7 +99,9 @@ macro_rules! braced {
     }};
 }
 
-/// Enters brackets, as `parenthesized!` does parentheses.
+/// Enters the next group, which must be in brackets, and returns the token of its brackets.
+///
+/// The macro stores a stream of the group's contents in the same way as `parenthesized!`.
 #[macro_export]
 macro_rules! bracketed {
     ($content:ident in $input:expr) => {{
