@@ -1,13 +1,15 @@
 -- Calls, and one more.
-use Rattle.std.proofs.Common.{◌≡◌, ℕ, suc, ◌+◌, Result, arith}
+use Rattle.std.proofs.Common.{◌≡◌, ℕ, suc, ◌+◌, List, ◌++◌, Result, arith}
 use Rattle.std.specs.declared.io.Error.{Error}
-use Rattle.replay_program.specs.Failures.{Calls, GoesOn}
+use Rattle.replay_program.specs.Failures.{ByteCall, GoesOn, Moves}
 
-module _ {S : Type 0} (calls : S → Result ℕ Error → S → Type 0) (s : S) where
-  -- so many calls, of which the loop has counted each
-  abbrev pub Counted : ℕ → S → Type 0
-  Counted i t = (n : ℕ) × (n ≡ i) × Calls calls n s t
+module _ {S : Type 0} (calls : ByteCall S) (s : S) where
+  -- so many calls, of which the loop has counted each, moved these bytes
+  abbrev pub Counted : ℕ → List ℕ → S → Type 0
+  Counted i bytes t = (n : ℕ) × (n ≡ i) × Moves calls n s bytes t
 
-  pub one_more : (i : ℕ) (mid : S) (r : Result ℕ Error) (t : S) → Counted i mid → calls mid r t
-      → GoesOn r → Counted (i + 1) t
-  one_more i mid r t h call goes = (suc h.0, omega (arith, h.1), (mid, r, h.2, call, goes))
+  pub one_more : (i : ℕ) (front : List ℕ) (mid : S) (r : Result ℕ Error) (more : List ℕ) (t : S)
+      → Counted i front mid → calls mid r more t → GoesOn r → (bytes : List ℕ)
+      → bytes ≡ front ++ more → Counted (i + 1) bytes t
+  one_more i front mid r more t h call goes bytes e =
+      (suc h.0, omega (arith, h.1), (mid, r, front, more, h.2, call, goes, e))

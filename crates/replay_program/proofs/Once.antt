@@ -11,16 +11,16 @@ use Rattle.tok_core.specs.declared.lexer.error.LexError.{LexError}
 use Rattle.tok_core.proofs.Lexical.Laws.{forest_once, refused_once, never_both}
 use Rattle.replay_program.specs.CommandText.{unreadable_line, commands_in}
 use Rattle.syn_replay.specs.Commands.{Command}
-use Rattle.replay_program.specs.Comparison.{AreFacts, Facts, Comparison, Compares, Outcome}
+use Rattle.replay_program.specs.Comparison.{AreFacts, Facts, Comparison, Compares, Reports}
 use Rattle.replay_program.specs.Comparison.{reported}
-use Rattle.replay_program.specs.Comparison.{compared, outcome_text, outcome_status}
+use Rattle.replay_program.specs.Comparison.{compared, reports_text, reports_status}
 use Rattle.replay_program.specs.Faults.{unreadable_text}
 use Rattle.replay_program.specs.Failures.{Reading, Writing, all_read}
 use Rattle.replay_program.specs.Output.{GoesOut}
 use Rattle.syn_replay.specs.ReportText.{as_line}
 use Rattle.replay_program.specs.Program.{HasParts, HasForests, IsForest, IsOther, IsUnreadable}
-use Rattle.replay_program.specs.Program.{IsOutcome}
-use Rattle.replay_program.specs.Program.{Fails, HasOutcome, Prints, PrintsOnly, Serves, ServesOnly}
+use Rattle.replay_program.specs.Program.{AreReports}
+use Rattle.replay_program.specs.Program.{Fails, HasReports, Prints, PrintsOnly, Serves, ServesOnly}
 use Rattle.replay_program.specs.Input.{parts_of}
 use Rattle.replay_program.specs.declared.fault.Unreadable.{Unreadable}
 use Rattle.replay_program.specs.declared.fault.Unreadable.TheVariants as why
@@ -230,25 +230,25 @@ module _ (f g : Forest) (cs : List Command) where
       ap₂ (λ v w. record { left = v; right = w; facts = a.facts }) left right
       ∙ ap (λ v. record { left = b.left; right = b.right; facts = v }) facts
 
-one_outcome : (forest : Forest) (more : Option Forest) (cs : List Command) (o p : Outcome)
-    → IsOutcome forest more cs o → IsOutcome forest more cs p → o ≡ p
-one_outcome forest None cs (reported r) (reported s) h k = ap reported (h ∙ sym k)
-one_outcome forest None cs (reported r) (compared c) h k = absurd k
-one_outcome forest None cs (compared c) p h k = absurd h
-one_outcome forest (Some g) cs (reported r) p h k = absurd h
-one_outcome forest (Some g) cs (compared c) (reported r) h k = absurd k
-one_outcome forest (Some g) cs (compared c) (compared d) h k =
+same_reports : (forest : Forest) (more : Option Forest) (cs : List Command) (o p : Reports)
+    → AreReports forest more cs o → AreReports forest more cs p → o ≡ p
+same_reports forest None cs (reported r) (reported s) h k = ap reported (h ∙ sym k)
+same_reports forest None cs (reported r) (compared c) h k = absurd k
+same_reports forest None cs (compared c) p h k = absurd h
+same_reports forest (Some g) cs (reported r) p h k = absurd h
+same_reports forest (Some g) cs (compared c) (reported r) h k = absurd k
+same_reports forest (Some g) cs (compared c) (compared d) h k =
     ap compared (comparison_once forest g cs c d h k)
 
-outcome_once : (bytes : List ℕ) (o p : Outcome) → HasOutcome bytes o → HasOutcome bytes p → o ≡ p
-outcome_once bytes o p (f, m, ls, h, e, r) (g, n, ks, k, d, s) =
+reports_once : (bytes : List ℕ) (o p : Reports) → HasReports bytes o → HasReports bytes p → o ≡ p
+reports_once bytes o p (f, m, ls, h, e, r) (g, n, ks, k, d, s) =
     let same = forests_once bytes f g m n ls ks h k in
-    one_outcome g n (commands_in ks) o p
-    (subst (λ z. IsOutcome g n (commands_in z) o) same.commands
-    (subst (λ z. IsOutcome g z (commands_in ls) o) same.others
-    (subst (λ z. IsOutcome z m (commands_in ls) o) same.forests r))) s
+    same_reports g n (commands_in ks) o p
+    (subst (λ z. AreReports g n (commands_in z) o) same.commands
+    (subst (λ z. AreReports g z (commands_in ls) o) same.others
+    (subst (λ z. AreReports z m (commands_in ls) o) same.forests r))) s
 
-not_both : (bytes : List ℕ) (o : Outcome) (w : Unreadable) → HasOutcome bytes o
+not_both : (bytes : List ℕ) (o : Reports) (w : Unreadable) → HasReports bytes o
     → IsUnreadable bytes w → ⊥
 not_both bytes o why.Utf8 (f, m, ls, (t, u, p, r, a), e, q) k = k p.0
 not_both bytes o why.Parts (f, m, ls, (t, u, p, r, a), e, q) k = no_parts bytes t u ls k.1 p
@@ -263,8 +263,8 @@ prints_once : (bytes printed other : List ℕ) (status code : ℕ) → Prints by
     → Prints bytes other code
     → (printed ≡ other) × (status ≡ code)
 prints_once bytes printed other status code (inl (o, h, p, s)) (inl (o', h', p', s')) =
-    let e = outcome_once bytes o o' h h' in
-    (p ∙ ap outcome_text e ∙ sym p', s ∙ ap outcome_status e ∙ sym s')
+    let e = reports_once bytes o o' h h' in
+    (p ∙ ap reports_text e ∙ sym p', s ∙ ap reports_status e ∙ sym s')
 prints_once bytes printed other status code (inl (o, h, p, s)) (inr (w, k, q, t)) =
     absurd (not_both bytes o w h k)
 prints_once bytes printed other status code (inr (w, k, q, t)) (inl (o, h, p, s)) =
@@ -292,19 +292,20 @@ serves_only read written bytes status old new (inl (printed, mine, h, all, a)) o
 serves_only read written bytes status old new (inr failed) other code k = inr failed
 
 -- a run over bytes that were read is one of the source that was read whole
-may_fail : (read : Reading) (written : Writing) (status : ℕ) (old new : Option (List ℕ))
-    → read.whole → Fails all_read written status old new → Fails read written status old new
-may_fail read written status old new whole (inl (all, told)) = inl (inl whole, told)
-may_fail read written status old new whole (inr (two, none, kept)) = absurd none
+may_fail : (read : Reading) (written : Writing) (bytes : List ℕ) (status : ℕ)
+    (old new : Option (List ℕ)) → read.whole bytes → Fails all_read written bytes status old new
+    → Fails read written bytes status old new
+may_fail read written bytes status old new whole (inl (all, told)) = inl (inl whole, told)
+may_fail read written bytes status old new whole (inr (two, none, kept)) = absurd none
 
 pub serves_read : (read : Reading) (written : Writing) (bytes : List ℕ) (status : ℕ)
     (old new : Option (List ℕ))
-    → read.whole → Serves all_read written bytes status old new
+    → read.whole bytes → Serves all_read written bytes status old new
     → Serves read written bytes status old new
 serves_read read written bytes status old new whole (inl (printed, code, h, all, a)) =
     inl (printed, code, h, whole, a)
 serves_read read written bytes status old new whole (inr failed) =
-    inr (may_fail read written status old new whole failed)
+    inr (may_fail read written bytes status old new whole failed)
 
 -- what holds of the bytes that were read
 pub known_read : (P : List ℕ → Type 0) (known : Option (List ℕ)) (read : List ℕ)

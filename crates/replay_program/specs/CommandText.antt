@@ -1,5 +1,5 @@
 -- The text of commands, a line each.
-use Rattle.std.specs.Prelude.{ℕ, ◌+◌, ◌==◌, nat_le, ◌&&◌, not, Bool, true, false, cond, bytes_eq}
+use Rattle.std.specs.Prelude.{ℕ, ◌+◌, ◌==◌, nat_le, ◌&&◌, not, Bool, true, false, if◌then◌else◌, bytes_eq}
 use Rattle.std.specs.Prelude.{List, [], ◌∷◌, length, Option, Some, None, is_none, codes}
 use Rattle.std.specs.List.{slice_split, filter, filter_map, position}
 use Rattle.std.specs.Option.{option_map, option_and_then}
@@ -35,7 +35,7 @@ is_number word = not (is_empty word) && (nat_le (length word) 9 && all_ascii_dig
 
 -- the number that a word is
 abbrev pub number : List ℕ → Option ℕ
-number word = cond (is_number word) (Some (digits_value 10 word)) None
+number word = if is_number word then Some (digits_value 10 word) else None
 
 -- a keyword or a punctuation, by its text
 abbrev pub token : List ℕ → Option Kind
@@ -49,7 +49,7 @@ token word =
 abbrev pub by_name : {A : Type 0} → List (List ℕ × A) → (otherwise : A) → List ℕ → A
 by_name [] otherwise word = otherwise
 by_name (row ∷ rows) otherwise word =
-    cond (bytes_eq word row.0) row.1 (by_name rows otherwise word)
+    if bytes_eq word row.0 then row.1 else by_name rows otherwise word
 
 -- the kinds that have a name
 abbrev pub kind_names : List (List ℕ × Option Kind)
@@ -109,7 +109,7 @@ only_word ws = None
 
 -- a command that takes nothing more
 abbrev pub alone : Command → List (List ℕ) → Option Command
-alone command rest = cond (is_empty rest) (Some command) None
+alone command rest = if is_empty rest then Some command else None
 
 -- a read of a stream
 abbrev pub reads : ℕ → StreamRead → Command
@@ -153,8 +153,8 @@ command_named name n rest =
 -- a lookahead takes any number of words
 abbrev pub command_on : List ℕ → ℕ → List (List ℕ) → Option Command
 command_on name n rest =
-    cond (bytes_eq name (codes "lookahead"))
-    (option_map (λ ls. reads n (lookahead ls)) (all_looks rest)) (command_named name n rest)
+    if bytes_eq name (codes "lookahead")
+    then option_map (λ ls. reads n (lookahead ls)) (all_looks rest) else command_named name n rest
 
 -- a name, a stream's number, and what the command takes
 abbrev pub command : List (List ℕ) → Option Command

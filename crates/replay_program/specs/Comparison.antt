@@ -75,17 +75,17 @@ abbrev pub both_status : Verdict → Verdict → ℕ
 both_status accepted v = verdict_status v
 both_status (left_over r) v = 1
 
--- the output of the program: one report, or two that are compared
-pub data Outcome : Type 0 where
-  reported : Report → Outcome
-  compared : Comparison → Outcome
+-- what the program reports: on one text, or on two that it compares
+pub data Reports : Type 0 where
+  reported : Report → Reports
+  compared : Comparison → Reports
 
 -- the bytes that the program prints
-abbrev pub outcome_text : Outcome → List ℕ
-outcome_text (reported r) = report_text r
-outcome_text (compared c) = comparison_text c
+abbrev pub reports_text : Reports → List ℕ
+reports_text (reported r) = report_text r
+reports_text (compared c) = comparison_text c
 
 -- the exit status of the program, 0 or 1
-abbrev pub outcome_status : Outcome → ℕ
-outcome_status (reported r) = verdict_status r.verdict
-outcome_status (compared c) = both_status c.left.verdict c.right.verdict
+abbrev pub reports_status : Reports → ℕ
+reports_status (reported r) = verdict_status r.verdict
+reports_status (compared c) = both_status c.left.verdict c.right.verdict

@@ -1,8 +1,8 @@
 -- What the program's comparison stands for, and what comes of an input.
 use Rattle.std.specs.Prelude.{◌≡◌, ℕ, List, ◌++◌, codes, string_bytes}
 use Rattle.replay_program.specs.Comparison as spec
-use Rattle.replay_program.specs.Comparison.{AreFacts, facts_text, outcome_status, outcome_text}
-use Rattle.replay_program.specs.Program.{HasOutcome, HasOutcomeFor}
+use Rattle.replay_program.specs.Comparison.{AreFacts, facts_text, reports_status, reports_text}
+use Rattle.replay_program.specs.Program.{HasReports, HasReportsFor}
 use Rattle.tok_core.specs.Forest.{Forest}
 use Rattle.syn_replay.specs.Commands.{Command}
 use Rattle.syn_replay.specs.Meanings.{verdict_of}
@@ -40,11 +40,11 @@ pub record HasCompared (f g : Forest) (commands : List Command) (c : Comparison)
 -- all is read, and this text with this status is what comes of it
 abbrev pub Comes : List ℕ → List ℕ → ℕ → Type 0
 Comes bytes printed status =
-    (o : spec.Outcome) × HasOutcome bytes o × (printed ≡ outcome_text o)
-    × (status ≡ outcome_status o)
+    (o : spec.Reports) × HasReports bytes o × (printed ≡ reports_text o)
+    × (status ≡ reports_status o)
 
 -- the commands are read, and this text with this status is what comes of the forest under them
 abbrev pub ComesFor : Forest → List ℕ → List ℕ → ℕ → Type 0
 ComesFor forest bytes printed status =
-    (o : spec.Outcome) × HasOutcomeFor forest bytes o × (printed ≡ outcome_text o)
-    × (status ≡ outcome_status o)
+    (o : spec.Reports) × HasReportsFor forest bytes o × (printed ≡ reports_text o)
+    × (status ≡ reports_status o)

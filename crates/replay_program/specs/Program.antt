@@ -7,8 +7,8 @@ use Rattle.tok_core.specs.Lexical.Reading.{ReadsForest, IsRejected}
 use Rattle.tok_lexical.specs.declared.rule.Mode.TheVariants.{Marked}
 use Rattle.replay_program.specs.CommandText.{unreadable_line, commands_in}
 use Rattle.syn_replay.specs.Commands.{Command}
-use Rattle.replay_program.specs.Comparison.{Compares, Outcome, reported, compared, outcome_text}
-use Rattle.replay_program.specs.Comparison.{outcome_status}
+use Rattle.replay_program.specs.Comparison.{Compares, Reports, reported, compared, reports_text}
+use Rattle.replay_program.specs.Comparison.{reports_status}
 use Rattle.replay_program.specs.Faults.{unreadable_text}
 use Rattle.replay_program.specs.Input.{lines, parts_of}
 use Rattle.replay_program.specs.Failures.{Reading, Writing}
@@ -60,23 +60,23 @@ IsUnreadable bytes (unreadable.Command n) =
     (forest : Forest) × (more : Option Forest) × (lines : List (List ℕ))
     × HasForests bytes forest more lines × (unreadable_line lines ≡ Some n)
 
--- the outcome of one forest, or of two, under these commands
-abbrev pub IsOutcome : Forest → Option Forest → List Command → Outcome → Type 0
-IsOutcome forest None commands (reported r) = r ≡ walk forest commands
-IsOutcome left (Some right) commands (compared c) = Compares left right commands c
-IsOutcome left right commands o = ⊥
+-- the reports on one forest, or on two, under these commands
+abbrev pub AreReports : Forest → Option Forest → List Command → Reports → Type 0
+AreReports forest None commands (reported r) = r ≡ walk forest commands
+AreReports left (Some right) commands (compared c) = Compares left right commands c
+AreReports left right commands o = ⊥
 
--- all is read, and this comes of it
-abbrev pub HasOutcome : List ℕ → Outcome → Type 0
-HasOutcome bytes o =
+-- all is read, and these are its reports
+abbrev pub HasReports : List ℕ → Reports → Type 0
+HasReports bytes o =
     (forest : Forest) × (more : Option Forest) × (lines : List (List ℕ))
     × HasForests bytes forest more lines × (unreadable_line lines ≡ None)
-    × IsOutcome forest more (commands_in lines) o
+    × AreReports forest more (commands_in lines) o
 
--- the outcome of the input, with status 0 or 1, or one line with 2
+-- the reports on the input, with status 0 or 1, or one line with 2
 abbrev pub Prints : List ℕ → List ℕ → ℕ → Type 0
 Prints bytes printed status =
-    ((o : Outcome) × HasOutcome bytes o × (printed ≡ outcome_text o) × (status ≡ outcome_status o))
+    ((o : Reports) × HasReports bytes o × (printed ≡ reports_text o) × (status ≡ reports_status o))
     ⊎
     ((why : Unreadable) × IsUnreadable bytes why × (printed ≡ as_line (unreadable_text why))
     × (status ≡ 2))
@@ -86,11 +86,11 @@ abbrev pub PrintsOnly : List ℕ → List ℕ → ℕ → Type 0
 PrintsOnly bytes printed status =
     (other : List ℕ) (code : ℕ) → Prints bytes other code → (printed ≡ other) × (status ≡ code)
 
--- the lines of commands are read, and this comes of a forest under them
-abbrev pub HasOutcomeFor : Forest → List ℕ → Outcome → Type 0
-HasOutcomeFor forest bytes o =
+-- the lines of commands are read, and these are the reports on a forest under them
+abbrev pub HasReportsFor : Forest → List ℕ → Reports → Type 0
+HasReportsFor forest bytes o =
     IsUtf8 bytes × (unreadable_line (lines bytes) ≡ None)
-    × IsOutcome forest None (commands_in (lines bytes)) o
+    × AreReports forest None (commands_in (lines bytes)) o
 
 -- the first thing in lines of commands that can't be read
 abbrev pub IsUnreadableFor : List ℕ → Unreadable → Type 0
@@ -99,11 +99,11 @@ IsUnreadableFor bytes (unreadable.Command n) =
     IsUtf8 bytes × (unreadable_line (lines bytes) ≡ Some n)
 IsUnreadableFor bytes why = ⊥
 
--- the outcome of a forest under lines of commands, with status 0 or 1, or one line with 2
+-- the reports on a forest under lines of commands, with status 0 or 1, or one line with 2
 abbrev pub PrintsFor : Forest → List ℕ → List ℕ → ℕ → Type 0
 PrintsFor forest bytes printed status =
-    ((o : Outcome) × HasOutcomeFor forest bytes o × (printed ≡ outcome_text o)
-    × (status ≡ outcome_status o))
+    ((o : Reports) × HasReportsFor forest bytes o × (printed ≡ reports_text o)
+    × (status ≡ reports_status o))
     ⊎
     ((why : Unreadable) × IsUnreadableFor bytes why × (printed ≡ as_line (unreadable_text why))
     × (status ≡ 2))
@@ -111,19 +111,20 @@ PrintsFor forest bytes printed status =
 -- of how the source was read, and how the sink was written to
 module _ (read : Reading) (written : Writing) where
   -- an allocation failed, and one line says so with 3; or a read failed, and nothing went out
-  abbrev pub Fails : ℕ → Option (List ℕ) → Option (List ℕ) → Type 0
-  Fails status old new =
-      ((read.whole ⊎ read.part) × GoesOut written (as_line (codes "memory")) 3 status old new)
+  abbrev pub Fails : List ℕ → ℕ → Option (List ℕ) → Option (List ℕ) → Type 0
+  Fails bytes status old new =
+      ((read.whole bytes ⊎ read.part) × GoesOut written (as_line (codes "memory")) 3 status old new)
       ⊎ ((status ≡ 2) × read.failed × Keeps old new)
 
   -- all was read, and what the program prints for these bytes went out; or it failed
   abbrev pub Serves : List ℕ → ℕ → Option (List ℕ) → Option (List ℕ) → Type 0
   Serves bytes status old new =
-      ((printed : List ℕ) × (code : ℕ) × Prints bytes printed code × read.whole
-      × GoesOut written printed code status old new) ⊎ Fails status old new
+      ((printed : List ℕ) × (code : ℕ) × Prints bytes printed code × read.whole bytes
+      × GoesOut written printed code status old new) ⊎ Fails bytes status old new
 
   -- all was read, and whatever the program prints for these bytes went out; or it failed
   abbrev pub ServesOnly : List ℕ → ℕ → Option (List ℕ) → Option (List ℕ) → Type 0
   ServesOnly bytes status old new =
       (printed : List ℕ) (code : ℕ) → Prints bytes printed code
-      → (read.whole × GoesOut written printed code status old new) ⊎ Fails status old new
+      → (read.whole bytes × GoesOut written printed code status old new)
+      ⊎ Fails bytes status old new

@@ -1,4 +1,4 @@
-//! The text of commands, one a line.
+//! A parser for a text with one command on each line.
 ghost use Rattle.std.specs.Prelude.{◌≡◌, ◌<◌, ◌==◌, ◌∷◌, [], length, IfOk, IfSome, MatchOption, MatchResult, ℕ, None, Some, false, map};
 ghost use Rattle.std.specs.Option.{ForSome, option_map};
 ghost use Rattle.std.specs.Str.{IsUtf8};
@@ -37,7 +37,10 @@ impl From<AllocError> for LineFault {
     }
 }
 
-/// Reads the commands of lines. Lines without words are skipped.
+/// Reads one command from each line of `lines`, and skips lines without words.
+///
+/// Returns an error at the first line that is not a command, or if an allocation fails. If `lines`
+/// is `None`, returns an empty list.
 pub fn read_commands(alloc: Global, lines: Option<&str>) -> Result<Vec<Command>, Fault>
     requires { ForSome lines (λ text. IsUtf8 text.now) }
     ensures { MatchResult result

@@ -1,4 +1,4 @@
-//! Two texts under one list of commands.
+//! A comparison of the reports on two texts.
 ghost use Rattle.std.specs.Prelude.{◌≡◌, Some, IfOk, map};
 ghost use Rattle.replay_program.specs.Comparison as spec;
 ghost use Rattle.replay_program.specs.Outcomes.{HasCompared, texts_of};
@@ -12,34 +12,35 @@ use std::fmt::{Formatter, Write};
 use syn_replay::{BothTexts, Command, Verdict, is_transparent, replay_both_texts};
 use tok_core::{TokenStream, is_clear, is_filled, same_visible};
 
-/// Five facts about two texts and a list of commands. Each is about both texts, or about all
-/// commands.
+/// Five facts about two texts and a list of commands.
 #[derive(Clone, Copy)]
 pub struct Facts {
-    /// Both texts are equal once their invisible groups are erased.
+    /// Whether the two texts have equal visible tokens, including their spans.
     pub visible: bool,
-    /// Each invisible group of both texts contains a visible token.
+    /// Whether each invisible group in both texts contains a visible token.
     pub filled: bool,
-    /// No joint apostrophe is directly before an invisible group or last in one.
+    /// Whether neither text has a joint apostrophe directly before a delimiter of an invisible
+    /// group.
     pub clear: bool,
-    /// Every command is transparent.
+    /// Whether every command is transparent, as `is_transparent` decides.
     pub transparent: bool,
-    /// Whether the reports agree.
+    /// Whether the two reports agree, as the function `agree` of `syn_replay` decides.
     pub agree: bool,
 }
 
-/// The reports on two texts as they are printed, their verdicts, and five facts about them.
+/// The result of `compare`: the printed reports and the verdicts on two texts, and five facts about
+/// the texts.
 #[derive(Drop)]
 pub struct Comparison {
-    /// The text of the report on the first text.
+    /// The printed report on the first text.
     pub left: String,
-    /// The text of the report on the second text.
+    /// The printed report on the second text.
     pub right: String,
-    /// The verdict on the first text.
+    /// The verdict on the first text: accepted, or rejected with an error.
     pub left_verdict: Verdict,
-    /// The verdict on the second text.
+    /// The verdict on the second text: accepted, or rejected with an error.
     pub right_verdict: Verdict,
-    /// The facts about both texts and the commands.
+    /// The five facts about the texts and the commands.
     pub facts: Facts,
 }
 
@@ -54,7 +55,9 @@ fn all_transparent(commands: &[Command]) -> bool
     true
 }
 
-/// Runs the commands over both streams, and compares.
+/// Runs `commands` over `left` and over `right`, and compares the two reports.
+///
+/// Returns an error if an allocation fails.
 pub fn compare(
     alloc: Global,
     left: TokenStream,
@@ -93,7 +96,8 @@ pub fn compare(
 }
 
 impl Comparison {
-    /// Returns the exit status of the program.
+    /// Returns the exit status of the program for two texts: 0 if both verdicts accept, and 1
+    /// otherwise.
     pub fn status(&self) -> u8
         ensures { result ≡ spec.both_status (verdict_of self.now.left_verdict)
             (verdict_of self.now.right_verdict) }
@@ -105,7 +109,8 @@ impl Comparison {
     }
 }
 
-/// Returns the exit status of the program for one text.
+/// Returns the exit status of the program for a single text: 0 if `verdict` accepts, and 1
+/// otherwise.
 pub fn status(verdict: &Verdict) -> u8
     ensures { result ≡ spec.verdict_status (verdict_of verdict.now) }
 {

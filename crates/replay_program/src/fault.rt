@@ -1,4 +1,4 @@
-//! Why an input has no report.
+//! Errors for inputs of the program that have no report.
 ghost use Rattle.std.specs.Prelude.{◌≡◌, Some};
 ghost use Rattle.replay_program.specs.Faults.{fault_of, right_fault_of, unreadable_text};
 
@@ -7,18 +7,18 @@ use std::fmt;
 use std::fmt::{Formatter, Write};
 use tok_core::{LexError, LexFault};
 
-/// The reason that an input can't be read.
+/// The reason why an input is not a text with commands.
 #[derive(Clone, Copy)]
 pub enum Unreadable {
     /// The input is not UTF-8.
     Utf8,
-    /// No line `---` ends a text, or more than two do.
+    /// No line of the input is `---`, or more than two lines are `---`.
     Parts,
-    /// The text is rejected.
+    /// The lexer rejects the first text with this error.
     Text(LexError),
-    /// The second of two texts is rejected.
+    /// The lexer rejects the second text with this error.
     Right(LexError),
-    /// The number of the first line, from 1, that is no command.
+    /// A line is not a command. The field is the number of the first such line, counted from 1.
     Command(usize),
 }
 
@@ -40,17 +40,17 @@ impl fmt::Display for Unreadable {
     }
 }
 
-/// The reason that there is no report.
+/// The reason why the program has no report for an input.
 #[derive(Clone, Copy)]
 pub enum Fault {
-    /// The input can't be read.
+    /// The input is not a text with commands, for this reason.
     Unreadable(Unreadable),
     /// An allocation failed.
     Memory,
 }
 
 impl Fault {
-    /// Returns the fault of the second of two texts.
+    /// Converts the error of lexing the second text to a `Fault`.
     pub fn of_right(fault: LexFault) -> Fault
         ensures { result ≡ right_fault_of fault }
     {

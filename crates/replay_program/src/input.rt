@@ -1,4 +1,4 @@
-//! The program's input.
+//! Functions that read the program's input and split it into parts.
 ghost use Rattle.std.specs.Prelude.{◌≡◌, ◌∷◌, [], ◌++◌, List, ℕ, true, false, IfErr, IfOk, IfSome, Some, None, MatchOption};
 ghost use Rattle.std.specs.List.{All, slice_split};
 ghost use Rattle.std.specs.Str.{IsUtf8};
@@ -11,19 +11,22 @@ use memchr::{memchr, memmem};
 use std::alloc::Global;
 use std::io::ErrorKind;
 
-/// Why an input could not be read.
+/// The reason why an input could not be read.
 #[derive(Drop)]
 pub enum ReadFault {
-    /// A read failed, or the input didn't end.
+    /// A read failed, or the input had not ended after 4,294,967,295 reads.
     Failed,
     /// An allocation failed.
     Memory,
 }
 
-/// Reads a source to its end, in at most 4,294,967,295 reads. An interrupted read is repeated.
+/// Reads `input` to its end, and returns its bytes.
+///
+/// The call repeats a read that was interrupted. It returns an error if a read fails, if the input
+/// has not ended after 4,294,967,295 reads, or if an allocation fails.
 pub fn read_input<S: Source>(alloc: Global, input: &mut S) -> Result<Vec<u8>, ReadFault>
     ensures bytes { IfSome (S.remaining input.old) (λ bytes. IfOk result (λ v. v.items ≡ bytes)) }
-    ensures whole { IfOk result (λ _. (reading S.reads input.old input.new).whole) }
+    ensures whole { IfOk result (λ v. (reading S.reads input.old input.new).whole v.items) }
     ensures part { IfErr result
         (λ fault. fault ≡ ReadFault.Memory → (reading S.reads input.old input.new).part) }
     ensures failed { IfErr result
@@ -46,10 +49,9 @@ pub fn read_input<S: Source>(alloc: Global, input: &mut S) -> Result<Vec<u8>, Re
     Err(ReadFault::Failed)
 }
 
-/// Splits an input into its text, the second text if there is one, and the lines after the last
-/// line `---`.
+/// Splits `input` into a text, an optional second text, and the remaining lines.
 ///
-/// Returns `None` unless one or two lines `---` end a text.
+/// A line `---` ends each text. Returns `None` unless `input` contains one or two such lines.
 pub fn parts(input: &str) -> Option<(&str, Option<&str>, Option<&str>)>
     ensures parts { MatchOption result
         (spec.parts_of input.now ≡ None)
@@ -117,7 +119,10 @@ fn lacks_cuts(text: &str) -> bool
     }
 }
 
-/// Returns the first line, and the rest after its line feed.
+/// Returns the first line of `rest`, and the text after this line.
+///
+/// The line feed after the line is in neither part. If `rest` contains no line feed, the second
+/// part is `None`.
 pub fn first_line(rest: &str) -> (&str, Option<&str>)
     ensures lines { spec.lines rest.now ≡ result.0.now ∷ spec.lines_left result.1 }
     ensures concat { IfSome result.1 (λ after. rest.now ≡ as_line result.0.now ++ after.now) }

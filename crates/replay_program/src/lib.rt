@@ -1,4 +1,5 @@
-//! The program: one or two texts and commands in, the report of `replay` and a status out.
+//! A program that reads one or two texts and a list of commands, and writes the reports of
+//! `replay`.
 #![tactic(auto)]
 
 mod channel;
@@ -8,7 +9,7 @@ mod fault;
 mod input;
 mod output;
 
-ghost use Rattle.std.specs.Prelude.{◌≡◌, IfOk, IfSome, MatchResult, Some, map, string_bytes};
+ghost use Rattle.std.specs.Prelude.{◌≡◌, ℕ, IfOk, IfSome, List, MatchResult, Some, map, string_bytes};
 ghost use Rattle.replay_program.specs.Failures.{all_read, reading, writing};
 ghost use Rattle.replay_program.specs.Faults.{OnUnreadable};
 ghost use Rattle.replay_program.specs.Comparison.{Comparison, Compares, both_status, comparison_text, verdict_status};
@@ -30,24 +31,38 @@ use syn_replay::{Command, replay_onto};
 use tok_buffer::TokenBuffer;
 use tok_core::{TokenStream, lex_marked};
 
-/// Reads one input, writes the program's output for it, and returns the exit status.
+/// Reads `input` to its end, writes the program's output to `output`, and returns the exit status.
 ///
-/// The input is one marked text or two, each followed by a line `---`, and then one command per
-/// line. The output for one text is its report. The output for two texts is both reports and then
-/// five facts about the texts. All of it is in memory before anything is written. The status is
+/// The input is one or two marked texts, with a line `---` after each text, and then commands, one
+/// on each line. The output for one text is its report. The output for two texts consists of both
+/// reports and five facts about the texts.
 ///
-/// - 0 if each report accepts,
-/// - 1 if one rejects,
-/// - 2 if the input can't be read, which one line explains, or if a read or a write fails,
-/// - 3 if an allocation fails, and the output is `memory`.
+/// The call creates the whole output in memory before it writes anything. The exit status is one of
+/// the following numbers:
 ///
-/// An input that has not ended after 4,294,967,295 reads counts as a failed read.
+/// - 0 if every report accepts its text.
+/// - 1 if a report rejects its text.
+/// - 2 if the input does not have this form, or if a read, a write or a flush fails. For an input
+///   of another form, the output is one line that states the reason.
+/// - 3 if an allocation fails. The output is then the line `memory`.
 ///
-/// The contract follows the calls of the reader and the writer, in the relations that `Source` and
-/// `Sink` name. Each read or write before the last moved some bytes or was interrupted. The last
-/// read found the end, and the sink was then flushed; or a call failed, and the status is 2. It is
-/// proved for all relations.
+/// If the input has not ended after 4,294,967,295 reads, the call treats this as a failed read.
+///
+/// The contract holds for every implementation of `Source` and `Sink`. It states that every read
+/// and every write, except the last one, moved some bytes or was interrupted. Unless a call or an
+/// allocation failed, the last read found the end of the input, and the sink was flushed after the
+/// last write.
+///
+/// The sink receives the program's output for the bytes that the reads returned, in order, or a
+/// prefix of this output if a write failed. If a read failed, the sink receives nothing. For a
+/// reader of `std`, the contract determines the bytes that the reads return only if the reader's
+/// remaining bytes are known, for example for a reader in memory.
 pub fn serve<R: Source, W: Sink>(alloc: Global, input: &mut R, output: &mut W) -> u8
+    ensures answers { let read = reading R.reads input.old input.new in
+        let written = writing W.writes W.flushes output.old output.new in
+        (bytes : List ℕ) × Serves read written bytes result (W.contents output.old)
+        (W.contents output.new)
+        × ServesOnly read written bytes result (W.contents output.old) (W.contents output.new) }
     ensures serves { let read = reading R.reads input.old input.new in
         let written = writing W.writes W.flushes output.old output.new in
         IfSome (R.remaining input.old)
@@ -81,9 +96,9 @@ fn answer<W: Sink>(alloc: Global, input: &[u8], output: &mut W) -> u8
     }
 }
 
-/// Returns the program's output for an input, and the exit status. `serve` writes it.
+/// Returns the program's output for `input`, and the exit status.
 ///
-/// Returns an error if an allocation fails.
+/// `serve` writes the same output. Returns an error if an allocation fails.
 ///
 /// # Examples
 ///
@@ -103,15 +118,16 @@ pub fn respond(alloc: Global, input: &[u8]) -> Result<(String, u8), AllocError>
     }
 }
 
-/// Runs the commands of a text, one a line, over a buffer, and returns what the program would print
-/// for a text of these tokens, and its exit status: the report, or one line that says which command
-/// is unreadable.
+/// Runs commands over the tokens in `buffer`, and returns the program's output and exit status.
+///
+/// `commands` is a text with one command on each line. The output is the report, or one line that
+/// states why `commands` can't be read.
 ///
 /// Returns an error if an allocation fails.
 ///
 /// # Requires
 ///
-/// The number of the buffer must be 0.
+/// The number of `buffer` must be 0.
 pub fn respond_to(
     alloc: Global,
     buffer: &TokenBuffer,

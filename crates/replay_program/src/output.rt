@@ -1,14 +1,14 @@
-//! The program's output.
+//! A function that writes the program's output.
 ghost use Rattle.std.specs.Bool.{MatchBool};
-ghost use Rattle.std.specs.Prelude.{◌≡◌, false, true};
-ghost use Rattle.std.specs.Io.KnownBytes.{Appends};
 ghost use Rattle.replay_program.specs.Failures.{writing};
-ghost use Rattle.replay_program.specs.Output.{AppendsFront, GoesOut};
+ghost use Rattle.replay_program.specs.Output.{GoesOut, GoesOutInPart, GoesOutWhole};
 
 use crate::channel::Sink;
 use std::io::ErrorKind;
 
-/// Writes a text and returns `status`, or 2 unless all of it was written.
+/// Writes `text` to `output`, and flushes `output`.
+///
+/// Returns `status` if the call wrote the whole text and the flush succeeded, and 2 otherwise.
 pub fn send<S: Sink>(output: &mut S, text: &str, status: u8) -> u8
     ensures { GoesOut (writing S.writes S.flushes output.old output.new) text.now status result
         (S.contents output.old) (S.contents output.new) }
@@ -23,11 +23,10 @@ pub fn send<S: Sink>(output: &mut S, text: &str, status: u8) -> u8
 // Writes all bytes, in at most 2^64 - 1 writes, and returns whether it did. An interrupted write is
 // repeated. std's `write_all` doesn't say how much was written before it failed.
 fn write_whole<S: Sink>(output: &mut S, bytes: &[u8]) -> bool
-    ensures bytes { MatchBool result
-        (Appends (S.contents output.old) (S.contents output.new) bytes.now)
-        (AppendsFront (S.contents output.old) (S.contents output.new) bytes.now) }
-    ensures whole { result ≡ true → (writing S.writes S.flushes output.old output.new).whole }
-    ensures failed { result ≡ false → (writing S.writes S.flushes output.old output.new).failed }
+    ensures { let written = writing S.writes S.flushes output.old output.new in
+        MatchBool result
+        (GoesOutWhole written bytes.now (S.contents output.old) (S.contents output.new))
+        (GoesOutInPart written bytes.now (S.contents output.old) (S.contents output.new)) }
 {
     let mut rest = bytes;
     for _i in 0..u64::MAX {

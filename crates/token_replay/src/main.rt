@@ -1,4 +1,5 @@
-//! Reads a marked text and commands from standard input, and prints the report of replaying them.
+//! Reads one or two marked texts and a list of commands from standard input, and prints the reports
+//! of running the commands.
 #![tactic(auto)]
 
 use replay_program::serve;
