@@ -1,15 +1,19 @@
 -- Parsers over entries.
 use Rattle.std.specs.Prelude.{◌≡◌, ◌⊎◌, ◌≤◌, ℕ, List, length, Result, Ok, Err}
+use Rattle.std.specs.Str.{IsUtf8}
 use Rattle.tok_core.specs.Forest.{Forest}
 use Rattle.tok_leaves.specs.Spans.{call_site}
 use Rattle.syn_parse.specs.Parsers.{ParsesWhole, whole_stream}
 use Rattle.syn_parse.specs.Reads.{Call}
 use Rattle.syn_parse.specs.declared.fault.Fault.{Fault}
 use Rattle.syn_parse.specs.declared.fault.Fault.TheVariants as fault
+use Rattle.tok_entries.specs.Blames.{Blames}
 use Rattle.tok_entries.specs.Denotes.{Denotes, DenotesNone}
 use Rattle.tok_entries.specs.declared.entry.Entry.{Entry}
 use Rattle.tok_entries.specs.declared.intake.fault.EntryFault.{EntryFault}
 use Rattle.tok_entries.specs.declared.intake.fault.EntryFault.TheVariants as entry
+use Rattle.tok_entries.specs.declared.intake.fault.Refusal.{Refusal}
+use Rattle.tok_entries.specs.declared.intake.fault.Refusal.TheVariants.{Text}
 use Rattle.tok_pruned.specs.Pruned.{pruned}
 use Rattle.entry_outcomes.specs.declared.parse.EntriesFault.{EntriesFault}
 use Rattle.entry_outcomes.specs.declared.parse.EntriesFault.TheVariants.{Malformed, Rejected, Memory}
@@ -29,9 +33,16 @@ abbrev pub result_of : {T : Type 0} → Result T Fault → Result T EntriesFault
 result_of (Ok v) = Ok v
 result_of (Err f) = Err (fault_of f)
 
+-- the entry with this number is rejected, and why; texts that are no UTF-8 are the first one's
+abbrev pub BlamesBytes : List Entry → List ℕ → Refusal → (named : ℕ) → Type 0
+BlamesBytes es bs why named =
+    (IsUtf8 bs × Blames es bs why named)
+    ⊎ ((IsUtf8 bs → ⊥) × (why ≡ Text) × (named ≡ 0))
+
 -- the parser was not run: the entries are no stream's, or an allocation failed
 abbrev pub IsStopped : List Entry → List ℕ → EntriesFault → Type 0
-IsStopped es bs (Malformed refusal entry) = DenotesNone es bs × (entry ≤ length es)
+IsStopped es bs (Malformed refusal entry) =
+    DenotesNone es bs × (entry ≤ length es) × BlamesBytes es bs refusal entry
 IsStopped es bs Memory = Unit {0}
 IsStopped es bs (Rejected e) = ⊥
 

@@ -1,4 +1,4 @@
-//! Answers: all that an export writes.
+//! Answers, which contain everything that an exported function writes.
 ghost use Rattle.std.specs.Prelude.{◌≡◌, ◌++◌, IfOk, OnOk, length, string_bytes};
 ghost use Rattle.entry_outcomes.specs.Answers as spec;
 ghost use Rattle.entry_outcomes.specs.Answers.{IsWritten, Returns, Writes, answered, bare, given_of_fault};
@@ -10,28 +10,31 @@ use crate::parse::EntriesFault;
 use std::alloc::{AllocError, Global};
 use tok_buffer::Error;
 
-/// All that an export writes, in memory of its own: values and texts, or the messages of an error.
+/// Everything that an exported function writes: values and their texts, or the messages of an
+/// error.
+///
+/// An answer owns its memory.
 #[derive(Drop)]
 pub struct Answer<T> {
     status: u32,
     refusal: u32,
     entry: usize,
-    /// The values.
+    /// The values that the exported function writes.
     pub values: Vec<T>,
     messages: Vec<Message>,
-    /// The texts of the values, or of the messages.
+    /// The texts of the values, or the texts of the messages.
     pub texts: String,
 }
 
 impl<T: Copy + Drop> Answer<T> {
-    /// Creates an answer without values, to which they are to be added.
+    /// Creates an empty answer, to which the caller can add values and their texts.
     pub fn new(alloc: Global) -> Answer<T>
         ensures { answered result ≡ bare 0 }
     {
         Answer::bare(alloc, DONE)
     }
 
-    /// Creates the answer of a text alone, with this status.
+    /// Creates an answer that has a status and a text, but no values or messages.
     pub fn of_text(alloc: Global, status: u32, text: String) -> Answer<T>
         ensures { answered result ≡ spec.given_text status (string_bytes text) }
     {
@@ -52,7 +55,10 @@ impl<T: Copy + Drop> Answer<T> {
         Answer::of_text(alloc, status, String::new(alloc))
     }
 
-    /// Creates the answer of a fault: of an error all its messages, each with its span and text.
+    /// Creates the answer that reports `fault` to a caller.
+    ///
+    /// If a parser rejected the tokens, the answer contains every message of the error, with its
+    /// span and text.
     ///
     /// Returns an error if an allocation fails.
     pub fn of_fault(alloc: Global, fault: EntriesFault) -> Result<Answer<T>, AllocError>
@@ -102,8 +108,10 @@ impl<T: Copy + Drop> Answer<T> {
     }
 }
 
-/// Writes an answer over the front of what the caller lends, if there is room for all of it, and
-/// else nothing: the outcome then says how much it takes. An allocation failure has status 3.
+/// Writes `answer` to the start of `values`, `messages` and `bytes`.
+///
+/// If one of these slices is too short, the call writes nothing, and the returned outcome contains
+/// the required lengths. If an allocation failed, the status of the outcome is 3.
 pub fn write<T: Copy + Drop>(
     alloc: Global,
     answer: Result<Answer<T>, AllocError>,

@@ -1,16 +1,20 @@
-//! Entries of a caller as a buffer.
+//! A function that reads a caller's entries into a buffer.
 ghost use Rattle.std.specs.Prelude.{◌≡◌, length, IfOk, IfErr};
 ghost use Rattle.tok_core.specs.Forest.{Forest};
 ghost use Rattle.tok_entries.specs.Denotes.{Denotes, DenotesNone};
-ghost use Rattle.tok_entries.specs.Refusals.{IsAmong, OnDenied};
+ghost use Rattle.tok_entries.specs.Refusals.{IsAmong, OnDenied, OnRejected};
 ghost use Rattle.tok_pruned.specs.Pruned.{pruned};
+ghost use Rattle.entry_outcomes.specs.Parsed.{BlamesBytes};
 
 use std::alloc::Global;
 use std::str::from_utf8;
 use tok_buffer::TokenBuffer;
 use tok_entries::{Entry, EntryFault, Refusal};
 
-/// Makes the buffer of entries, as `TokenBuffer::from_entries` does, of texts that may be no UTF-8.
+/// Creates a buffer from `entries` and `texts`, in the same way as `TokenBuffer::from_entries`.
+///
+/// The bytes of `texts` do not have to be UTF-8. If they are not UTF-8, the call returns an error
+/// with `Refusal::Text` and the entry number 0.
 pub fn read_entries(
     alloc: Global,
     entries: &[Entry],
@@ -21,6 +25,8 @@ pub fn read_entries(
     ensures number { IfOk result (λ b. b.number ≡ 0) }
     ensures refuses { IfErr result
         (λ fault. OnDenied fault (DenotesNone entries.now texts.now)) }
+    ensures blames { IfErr result
+        (λ fault. OnRejected fault (BlamesBytes entries.now texts.now)) }
     ensures names { IfErr result (λ fault. IsAmong 0 (length entries.now) fault) }
 {
     match from_utf8(texts) {

@@ -1,11 +1,11 @@
-//! What an export that takes a caller's entries does: it parses them, and writes an answer into
-//! memory that the caller lends.
+//! Functions for writing exported functions, which parse a caller's entries and write an answer
+//! into memory that the caller lends.
 //!
-//! A language of one's own is exported in a few lines:
+//! You can export a parser for a language of your own in a few lines:
 //!
-//! - `parse_entries` runs its parser over the entries.
-//! - A function of the language's own makes an `Answer` of what was parsed, as flat structs.
-//! - `Answer::of_fault` makes one of an error, and `write` writes it.
+//! - `parse_entries` runs the parser of the language over the entries.
+//! - A function that you write converts the parsed value to an `Answer` of flat structs.
+//! - `Answer::of_fault` converts an error to an answer, and `write` writes the answer.
 #![tactic(auto)]
 
 mod answer;

@@ -1,4 +1,4 @@
-//! What an export returns, as C sees it.
+//! The structs and statuses that an exported function returns to C.
 ghost use Rattle.std.specs.Prelude.{◌≡◌};
 ghost use Rattle.tok_entries.specs.Entries.{end_byte, first_byte};
 ghost use Rattle.entry_outcomes.specs.Answers as spec;
@@ -6,51 +6,54 @@ ghost use Rattle.entry_outcomes.specs.Answers as spec;
 use tok_core::Span;
 use tok_entries::Refusal;
 
-/// All went well.
+/// The status of a call that succeeded.
 pub const DONE: u32 = 0;
 
-/// The tokens are rejected.
+/// The status of a call that rejected the tokens.
 pub const REJECTED: u32 = 1;
 
-/// An allocation failed.
+/// The status of a call in which an allocation failed.
 pub const NO_MEMORY: u32 = 3;
 
-/// There is too little room.
+/// The status of a call that had too little room to write its answer.
 pub const NO_ROOM: u32 = 4;
 
-/// The entries are no stream's.
+/// The status of a call whose entries do not form a token stream.
 pub const MALFORMED: u32 = 6;
 
-/// What came of entries.
+/// The outcome of an exported function that parses entries.
 #[repr(C)]
 #[derive(Clone, Copy)]
 pub struct Outcome {
-    /// 0 if all went well, 1 if the tokens are rejected, 2 if a line is no command, 3 if an
-    /// allocation failed, 4 if there is too little room, 6 if the entries are no stream's.
+    /// The status: 0 if the call succeeded, 1 if the tokens are rejected, or 2 if a line is not a
+    /// command. The status is 3 if an allocation failed, 4 if there is too little room, or 6 if the
+    /// entries do not form a token stream.
     pub status: u32,
-    /// Of entries that are no stream's: 1 if a field does not fit, 2 if a text is none of its kind,
-    /// 3 if the groups are nested too deep. 0 for all others.
+    /// The reason why the entries do not form a token stream. It is 1 if a field of an entry is
+    /// invalid, 2 if a text is not valid for its leaf, or 3 if groups are nested too deeply. If the
+    /// entries form a token stream, the reason is 0.
     pub refusal: u32,
-    /// Of entries that are no stream's, the number of one that does not fit, or how many there are.
-    /// 0 for all others.
+    /// The index of the rejected entry. If bytes of the texts are left after the last entry, this
+    /// number is the number of entries. If the entries form a token stream, this number is 0.
     pub entry: usize,
-    /// How many values there are to write.
+    /// The number of values in the answer, even if there was too little room to write them.
     pub values: usize,
-    /// How many messages there are to write.
+    /// The number of messages in the answer, even if there was too little room to write them.
     pub messages: usize,
-    /// How many bytes there are to write: the texts of the messages or of the values.
+    /// The number of bytes in the texts of the messages or of the values, even if there was too
+    /// little room to write them.
     pub bytes: usize,
 }
 
-/// A message of an error.
+/// A message of an error, as a plain struct.
 #[repr(C)]
 #[derive(Clone, Copy)]
 pub struct Message {
-    /// The span: from the first token that the message is about to the last. Both are 0 for the
-    /// call site.
+    /// The span of the tokens that the message is about, from `start` to `end`. If the span is the
+    /// call site, both bounds are 0.
     pub start: usize,
     pub end: usize,
-    /// The range of its text in the bytes that are written.
+    /// The range of the message's text in the written bytes, from `text_start` to `text_end`.
     pub text_start: usize,
     pub text_end: usize,
 }
@@ -68,7 +71,7 @@ pub fn message_of(span: Span, text_start: usize, text_end: usize) -> Message
     }
 }
 
-/// Returns the range of a span, or the empty one at 0 for the call site.
+/// Returns the start and the end of `span`, or 0 for both if `span` is the call site.
 pub fn range(span: Span) -> (usize, usize)
     ensures start { result.0 ≡ first_byte span }
     ensures end { result.1 ≡ end_byte span }

@@ -1,4 +1,4 @@
-//! Parsers over entries.
+//! A function that parses entries, and the type of its errors.
 ghost use Rattle.std.specs.Prelude.{◌≡◌};
 ghost use Rattle.std.specs.Fn.{FnOnceReturnsAtMut, FnOnceTakesAtMut};
 ghost use Rattle.tok_core.specs.Forest.{Forest};
@@ -13,12 +13,13 @@ use tok_buffer::{Error, TokenBuffer};
 use tok_core::Span;
 use tok_entries::{Entry, EntryFault, Refusal};
 
-/// Why entries are not parsed.
+/// The error of a call that could not parse entries.
 #[derive(Drop, Debug)]
 pub enum EntriesFault {
-    /// The entries and texts are no stream's: the entry with this number is refused.
+    /// The entries and texts do not form a token stream. The fields are the reason and the index of
+    /// the rejected entry.
     Malformed(Refusal, usize),
-    /// The parser rejects the tokens, or leaves some of them.
+    /// The parser rejects the tokens, or leaves some of them unread.
     Rejected(Error),
     /// An allocation failed.
     Memory,
@@ -37,12 +38,14 @@ impl From<EntryFault> for EntriesFault {
     }
 }
 
-/// Parses all tokens that entries and texts denote, without the invisible groups that hold nothing
-/// visible. A leftover token is an error, unless the parser has returned one.
+/// Parses all tokens of `entries` and `texts` with `parser`, and returns the parsed value.
+///
+/// The call first removes the invisible groups that contain no visible token. If `parser` returns a
+/// value but leaves a token unread, the call returns an error.
 ///
 /// # Requires
 ///
-/// The parser must be callable on the stream of each forest.
+/// `parser` must be callable on every stream that reads a whole token stream.
 pub fn parse_entries<T: Drop, F: FnOnce(ParseStream<'_, '_>) -> syn_parse::Result<T>>(
     alloc: Global,
     entries: &[Entry],

@@ -1,5 +1,5 @@
 -- What the calls of a cursor return and write.
-use Rattle.std.specs.Prelude.{◌≡◌, ℕ, ◌==◌, cond, Bool, true, false, List, Option, Some, None}
+use Rattle.std.specs.Prelude.{◌≡◌, ℕ, ◌==◌, if◌then◌else◌, Bool, true, false, List, Option, Some, None}
 use Rattle.tok_lexical.specs.declared.delimiter.Delimiter.{Delimiter}
 use Rattle.tok_lexical.specs.declared.delimiter.Delimiter.TheVariants.{Parenthesis, Brace, Bracket}
 use Rattle.tok_lexical.specs.declared.delimiter.Delimiter.TheVariants as delimiter
@@ -15,8 +15,11 @@ IsFound None found old new = (found ≡ false) × (new ≡ old)
 -- the delimiter of a number
 abbrev pub delimiter_of : ℕ → Option Delimiter
 delimiter_of number =
-    cond (number == 0) (Some Parenthesis) (cond (number == 1) (Some Brace)
-    (cond (number == 2) (Some Bracket) (cond (number == 3) (Some delimiter.None) None)))
+    if number == 0 then Some Parenthesis
+    else if number == 1 then Some Brace
+    else if number == 2 then Some Bracket
+    else if number == 3 then Some delimiter.None
+    else None
 
 -- a group with the delimiter of a number
 abbrev pub read_numbered : ℕ → List Entry → Option Step

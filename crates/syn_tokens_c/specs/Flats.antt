@@ -23,6 +23,7 @@ flat_as kind name value inside =
 
 -- a name alone is of kind 0, one with a literal of kind 1, and one with a list of kind 2
 abbrev mutual
+  -- an argument, and after it those inside its list
   pub flat : Form → List FlatArgument
   flat (flag name) = flat_as 0 name.span call_site 0 ∷ []
   flat (assigned name equals text) = flat_as 1 name.span text.span 0 ∷ []

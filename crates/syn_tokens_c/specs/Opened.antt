@@ -45,7 +45,7 @@ HandsNothing status o h =
     (o.reading ≡ reading_of (bare status)) × (h.value ≡ None)
     × (o.entries ≡ null_ptr) × (o.bytes ≡ null_ptr)
 
--- so is an answer that the library has made, if no allocation failed
+-- the answer that the library has made is handed out, unless an allocation failed
 abbrev pub HandsAnswer : Result Made AllocError → declared.Opened → Handle → Type 0
 HandsAnswer (Ok made) o h = Hands (answered made) o h ⊎ HandsNothing 3 o h
 HandsAnswer (Err e) o h = HandsNothing 3 o h

@@ -1,5 +1,5 @@
 -- What the calls return and write.
-use Rattle.std.specs.Prelude.{◌≡◌, ◌⊎◌, ℕ, ◌≤◌, ◌==◌, cond, List, [], ◌++◌, length, drop}
+use Rattle.std.specs.Prelude.{◌≡◌, ◌⊎◌, ℕ, ◌≤◌, ◌==◌, if◌then◌else◌, List, [], ◌++◌, length, drop}
 use Rattle.std.specs.Prelude.{Option, Some, None, MatchOption, Result, Ok, Err, string_bytes}
 use Rattle.std.specs.Str.{IsUtf8, chars}
 use Rattle.tok_core.specs.Forest.{Forest}
@@ -36,11 +36,11 @@ answered a =
       bytes = string_bytes a.bytes;
     }
 
--- nothing to write
+-- an answer with this status, and nothing to write
 abbrev pub bare : ℕ → Answer
 bare status = record { status = status; rule = 0; at = 0; entries = []; bytes = [] }
 
--- these entries and texts
+-- an answer with these entries and texts
 abbrev pub all_of : List Entry → List ℕ → Answer
 all_of es bs = record { status = 0; rule = 0; at = 0; entries = es; bytes = bs }
 
@@ -56,11 +56,11 @@ refused (Refused e) =
     }
 refused Memory = bare 3
 
--- the entries and texts of a forest
+-- an answer with the entries and texts of a forest
 abbrev pub forest_answer : Forest → Answer
 forest_answer f = all_of (entries 0 f) (texts f)
 
--- entries and texts that are there
+-- an answer with the entries and texts that were read
 abbrev pub lexed_answer : LexedEntries → Answer
 lexed_answer lexed = all_of lexed.entries.items (string_bytes lexed.texts)
 
@@ -69,7 +69,7 @@ abbrev pub answer_of : {A : Type 0} → (A → Answer) → Result A LexFault →
 answer_of answer (Ok read) = answer read
 answer_of answer (Err fault) = refused fault
 
--- these come first, and the rest is as before
+-- new begins with what was written, and the rest is as before
 abbrev pub Fronts : {A : Type 0} → List A → (old new : List A) → Type 0
 Fronts written old new = new ≡ written ++ drop (length written) old
 
@@ -102,8 +102,11 @@ Lexes Follows text r old new before after =
 -- the edition of a year
 abbrev pub edition_of : ℕ → Option Edition
 edition_of year =
-    cond (year == 2015) (Some Edition2015) (cond (year == 2018) (Some Edition2018)
-    (cond (year == 2021) (Some Edition2021) (cond (year == 2024) (Some Edition2024) None)))
+    if year == 2015 then Some Edition2015
+    else if year == 2018 then Some Edition2018
+    else if year == 2021 then Some Edition2021
+    else if year == 2024 then Some Edition2024
+    else None
 
 -- a source that is UTF-8 follows the grammar of the edition of this year, if there is one
 abbrev pub LexesSource : ℕ → List ℕ → Reading → (old new : List Entry) →

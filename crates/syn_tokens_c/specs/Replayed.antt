@@ -22,7 +22,7 @@ GivesReport es bs commands given =
     × PrintsFor (pruned f) commands printed status × (given ≡ given_text status printed))
     ⊎ ((fault : EntriesFault) × IsStopped es bs fault × (given ≡ given_of_fault fault))
 
--- so is an answer, unless an allocation failed
+-- such a report is given as an answer, unless an allocation failed
 abbrev pub AnswersReport : List Entry → (bs commands : List ℕ) → Result (Answer ℕ) AllocError
     → Type 0
 AnswersReport es bs commands (Ok a) = GivesReport es bs commands (answered a)

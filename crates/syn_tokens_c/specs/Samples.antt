@@ -30,7 +30,7 @@ entry_sample =
 abbrev pub reading_sample : Reading
 reading_sample = record { status = 9; rule = 10; at = 11; entries = 12; bytes = 13 }
 
--- that report, and two pointers that are null
+-- the sample of a report, and two pointers that are null
 abbrev pub opened_sample : Opened
 opened_sample = record { reading = reading_sample; entries = null_ptr; bytes = null_ptr }
 

@@ -1,4 +1,4 @@
-//! The next token of the entries that are left.
+//! Functions that find the next token in an array of entries.
 ghost use Rattle.std.specs.Prelude.{◌≡◌};
 ghost use Rattle.tok_entries.specs.Cursor.{read_ident, read_lifetime, read_literal, read_punct, skip};
 ghost use Rattle.syn_tokens_c.specs.Cursors.{IsFound, delimiter_of, read_numbered};
@@ -7,11 +7,13 @@ use tok_core::Delimiter;
 use tok_entries::Entry;
 use tok_entries::cursor::{Step, group, ident, lifetime, literal, punct, skip};
 
-/// Writes where the next token is, if it is an identifier, keywords and `_` included. Returns
-/// `false` if it is not, and writes nothing.
+/// Writes the location of the next token to `step` if this token is an identifier, a keyword or
+/// `_`.
 ///
-/// `entries` are those that are left in a scope: of a whole text, of the contents of a group, or
-/// what is left of these after a token. Edges of invisible groups are looked through.
+/// Returns `true` if the location was written. Otherwise, writes nothing and returns `false`.
+///
+/// `entries` contains the remaining entries of a scope, which is a whole text or the contents of a
+/// group. The call skips the delimiters of invisible groups before the token.
 #[unsafe(no_mangle)]
 pub extern "C" fn syn_tokens_ident(entries: &[Entry], step: &mut Step) -> bool
     ensures { IsFound (read_ident entries.now) result step.old step.new }
@@ -19,8 +21,10 @@ pub extern "C" fn syn_tokens_ident(entries: &[Entry], step: &mut Step) -> bool
     tell(ident(entries), step)
 }
 
-/// Writes where the next token is, if it is a punct other than an apostrophe. As
-/// `syn_tokens_ident`; `texts` are the texts of all entries.
+/// Writes the location of the next token to `step` if this token is a punct other than an
+/// apostrophe.
+///
+/// `texts` contains the texts of all entries. `syn_tokens_ident` explains `entries` and the result.
 #[unsafe(no_mangle)]
 pub extern "C" fn syn_tokens_punct(entries: &[Entry], texts: &[u8], step: &mut Step) -> bool
     ensures { IsFound (read_punct texts.now entries.now) result step.old step.new }
@@ -28,7 +32,9 @@ pub extern "C" fn syn_tokens_punct(entries: &[Entry], texts: &[u8], step: &mut S
     tell(punct(entries, texts), step)
 }
 
-/// Writes where the next token is, if it is a literal. As `syn_tokens_ident`.
+/// Writes the location of the next token to `step` if this token is a literal.
+///
+/// `syn_tokens_ident` explains `entries` and the result.
 #[unsafe(no_mangle)]
 pub extern "C" fn syn_tokens_literal(entries: &[Entry], step: &mut Step) -> bool
     ensures { IsFound (read_literal entries.now) result step.old step.new }
@@ -36,8 +42,10 @@ pub extern "C" fn syn_tokens_literal(entries: &[Entry], step: &mut Step) -> bool
     tell(literal(entries), step)
 }
 
-/// Writes where the next lifetime is: a joint apostrophe, and its name. As `syn_tokens_ident`;
-/// `texts` are the texts of all entries.
+/// Writes the location of the next token to `step` if this token is a lifetime.
+///
+/// A lifetime consists of a joint apostrophe and a name. `texts` contains the texts of all entries.
+/// `syn_tokens_ident` explains `entries` and the result.
 #[unsafe(no_mangle)]
 pub extern "C" fn syn_tokens_lifetime(entries: &[Entry], texts: &[u8], step: &mut Step) -> bool
     ensures { IsFound (read_lifetime texts.now entries.now) result step.old step.new }
@@ -45,8 +53,11 @@ pub extern "C" fn syn_tokens_lifetime(entries: &[Entry], texts: &[u8], step: &mu
     tell(lifetime(entries, texts), step)
 }
 
-/// Writes where the next group is, if it has the delimiter of this number. An invisible group is
-/// found only if it is the first entry. As `syn_tokens_ident`.
+/// Writes the location of the next group to `step` if the delimiter of this group has the number
+/// `delimiter`.
+///
+/// The call finds an invisible group only if the group begins at the first entry.
+/// `syn_tokens_ident` explains `entries` and the result.
 #[unsafe(no_mangle)]
 pub extern "C" fn syn_tokens_group(entries: &[Entry], delimiter: u32, step: &mut Step) -> bool
     ensures { IsFound (read_numbered delimiter entries.now) result step.old step.new }
@@ -57,8 +68,12 @@ pub extern "C" fn syn_tokens_group(entries: &[Entry], delimiter: u32, step: &mut
     }
 }
 
-/// Writes where the next token is: a lifetime, or else a leaf or a visible group. Returns `false`
-/// if no such token is left. As `syn_tokens_ident`; `texts` are the texts of all entries.
+/// Writes the location of the next token to `step`.
+///
+/// The token can be a lifetime, another leaf token or a visible group. If no such token is left,
+/// the call writes nothing and returns `false`.
+///
+/// `texts` contains the texts of all entries. `syn_tokens_ident` explains `entries` and the result.
 #[unsafe(no_mangle)]
 pub extern "C" fn syn_tokens_skip(entries: &[Entry], texts: &[u8], step: &mut Step) -> bool
     ensures { IsFound (skip texts.now entries.now) result step.old step.new }

@@ -1,4 +1,5 @@
-//! Arguments as a flat array, each before those inside it.
+//! Conversion of arguments to a flat array, in which each argument precedes the arguments inside
+//! it.
 ghost use Rattle.std.specs.Prelude.{◌≡◌, ◌++◌, IfOk, OnOk};
 ghost use Rattle.arguments.specs.Forms.{argument_form, forms, list_form};
 ghost use Rattle.entry_outcomes.specs.Answers.{answered};
@@ -9,19 +10,22 @@ use entry_outcomes::{Answer, range};
 use std::alloc::{AllocError, Global};
 use tok_core::Span;
 
-/// An argument: a name, and its value.
+/// An argument as a plain struct, with the spans of its name and its value.
 #[repr(C)]
 #[derive(Clone, Copy)]
 pub struct FlatArgument {
-    /// 0 for a name alone, 1 for a name and a literal, 2 for a name and arguments in parentheses.
+    /// The kind of the argument: 0 for a name alone, 1 for a name and a literal, or 2 for a name
+    /// and arguments in parentheses.
     pub kind: usize,
-    /// The span of the name.
+    /// The span of the name, from `name_start` to `name_end`.
     pub name_start: usize,
     pub name_end: usize,
-    /// The span of the literal, or from one parenthesis to the other. Both are 0 for a name alone.
+    /// The span of the literal, or of the parentheses with their contents, from `value_start` to
+    /// `value_end`. For a name alone, both bounds are 0.
     pub value_start: usize,
     pub value_end: usize,
-    /// How many of the next arguments are inside this one, at any depth.
+    /// The number of arguments inside this argument, at any depth. These arguments directly follow
+    /// this argument in the array.
     pub inside: usize,
 }
 
@@ -75,7 +79,10 @@ fn push_one(flats: &mut Vec<FlatArgument>, argument: &Argument) -> Result<(), Al
     Ok(())
 }
 
-/// Returns the answer of a list of arguments.
+/// Converts a list of arguments to an answer that contains them as a flat array.
+///
+/// In the array, each argument precedes the arguments inside it. Returns an error if an allocation
+/// fails.
 pub fn flatten(alloc: Global, list: &Arguments) -> Result<Answer<FlatArgument>, AllocError>
     ensures { IfOk result (λ a. answered a ≡ spec.given_list list.now) }
 {

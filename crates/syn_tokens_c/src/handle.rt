@@ -1,4 +1,4 @@
-//! Memory in a caller's hands.
+//! Handles to memory that the library keeps for a caller.
 ghost use Rattle.std.specs.Prelude.{◌≡◌, Option, None, Some, MatchOption};
 ghost use Rattle.syn_tokens_c.specs.declared.kept.Kept.{Kept as Held};
 ghost use Rattle.syn_tokens_c.specs.Handed.{coded_held, holds};
@@ -10,7 +10,9 @@ use std::marker::Model;
 use std::mem::replace;
 use std::ptr::null_mut;
 
-/// What a caller holds of the library's memory: null if nothing.
+/// A handle to memory that the library keeps for a caller.
+///
+/// A handle that holds no memory is null.
 #[repr(C)]
 pub struct Handle {
     at: *mut u8,
@@ -71,7 +73,9 @@ impl Handle {
     }
 }
 
-/// Frees what the handle holds. It then holds nothing, and may be closed again.
+/// Frees the memory that `handle` holds.
+///
+/// After the call, `handle` holds no memory, and may be closed again.
 #[unsafe(no_mangle)]
 pub extern "C" fn syn_tokens_close(alloc: Global, handle: &mut Handle)
     ensures { handle.new.value ≡ None }

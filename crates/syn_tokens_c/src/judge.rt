@@ -1,4 +1,4 @@
-//! Entries read as arguments.
+//! A function that parses entries as arguments.
 ghost use Rattle.arguments.specs.Reading.{arguments as read_as};
 ghost use Rattle.syn_parse.specs.Takings.{Keeps};
 ghost use Rattle.syn_tokens_c.specs.Judged.{AnswersArguments, IsJudged, ParsesArguments};
@@ -11,12 +11,14 @@ use syn_parse::ParseStream;
 use tok_entries::Entry;
 use tok_pruned::laws::pruning_fills;
 
-/// Reads entries as arguments, whatever invisible groups they have. The arguments are written over
-/// the front of `values`, each before those inside it. If the tokens are rejected, all messages of
-/// the error are written over the front of `messages`, and their texts over that of `bytes`.
+/// Parses `entries` as arguments, regardless of invisible groups.
 ///
-/// If there is not enough room, nothing is written: `outcome` then says how much it takes, and the
-/// call can be made again.
+/// The call writes the arguments to the start of `values`. In this array, each argument precedes
+/// the arguments inside it. If the tokens are rejected, the call writes all messages of the error
+/// to the start of `messages`, and their texts to the start of `bytes`.
+///
+/// If one of these slices is too short, the call writes to none of them. `outcome` then contains
+/// the required lengths, and the caller can repeat the call with longer slices.
 #[unsafe(no_mangle)]
 pub extern "C" fn syn_tokens_arguments(
     alloc: Global,

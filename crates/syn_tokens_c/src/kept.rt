@@ -1,10 +1,10 @@
-//! What the library keeps for a caller.
+//! The memory that the library keeps for a caller.
 ghost use Rattle.std.specs.Prelude.{◌≡◌, [], ◌∷◌, ◌++◌, IfOk, string_bytes};
 
 use std::alloc::{AllocError, Global};
 use tok_entries::Entry;
 
-/// The entries of a text, and the bytes that they name. A zero follows the bytes.
+/// The entries of a text, and the bytes of their texts with a zero byte at the end.
 #[derive(Drop)]
 pub struct Kept {
     pub entries: Vec<Entry>,

@@ -1,4 +1,5 @@
-//! Laws of the structs that callers see. Each is the contract of a function that does nothing.
+//! Laws about the structs that callers see. Each law is the contract of a function that does
+//! nothing.
 ghost use Rattle.tok_lexical.specs.Laws.{ClonesKeep};
 
 use crate::flat::FlatArgument;
@@ -6,7 +7,8 @@ use crate::open::Opened;
 use crate::read::Reading;
 use crate::value::LiteralValue;
 
-/// A clone of a struct that a call fills equals the original, pointers included.
+/// A clone of a struct that the library fills in for a caller equals the original, including its
+/// pointers.
 pub fn clones_keep_structs()
     ensures openings { ClonesKeep ⟦<Opened as Clone>⟧.is_clone }
     ensures readings { ClonesKeep ⟦<Reading as Clone>⟧.is_clone }

@@ -1,20 +1,26 @@
-//! The library for callers in C and Rust: a text is read into an array of plain structs, and
-//! commands are run. A caller's own tokens come in as such an array. What a call writes, the caller
-//! lends, but for `syn_tokens_open`: the memory that it takes is the caller's by a handle.
+//! The library for callers in C and Rust. Its calls read texts into arrays of plain structs, and
+//! run commands over tokens.
 //!
-//! # What a caller must keep to
+//! A caller can also pass its own tokens as such an array. Each call writes into memory that the
+//! caller lends, except for `syn_tokens_open`. That call writes into memory of the library, which
+//! the caller holds with a handle.
 //!
-//! No contract can see to these.
+//! # Rules for callers
 //!
-//! - A slice is passed as a pointer and a length. The pointer is not null, is aligned, and has so
-//!   many elements behind it, also if there are none.
-//! - No two parameters share memory, except that a text may be passed to several calls at once.
-//! - A handle is null or as a call has left it, and is not copied: each is passed to one call at a
-//!   time. Nobody writes to what it holds, or reads that once it is closed or opened again.
-//! - `malloc`, `realloc` and `free` are of one allocator, and align a block to each power of two up
-//!   to 16 that divides its size.
-//! - The caller's structs are laid out as these: `syn_tokens_sample` and the calls whose
-//!   names begin with it show it.
+//! The contracts can't check that a caller follows these rules:
+//!
+//! - A slice is passed as a pointer and a length. The pointer must be non-null and aligned, even if
+//!   the length is zero. It must point to as many elements as the length says.
+//! - Two parameters must not share memory. However, a text may be passed to several calls at the
+//!   same time.
+//! - A handle must be null, or unchanged since a call wrote it. It must not be copied, and must be
+//!   passed to only one call at a time.
+//! - The memory that a handle holds must not be written to. After the handle is closed or opened
+//!   again, this memory must not be read.
+//! - `malloc`, `realloc` and `free` must belong to the same allocator. They must align a block to
+//!   each power of two up to 16 that divides the size of the block.
+//! - The caller's structs must have the same layout as the structs of this crate. The calls whose
+//!   names begin with `syn_tokens_sample` check this.
 #![tactic(auto)]
 
 mod cursor;

@@ -1,4 +1,4 @@
-//! Lines and columns of a text.
+//! A function that finds the lines and columns of bytes in a text.
 ghost use Rattle.syn_tokens_c.specs.Places.{ArePlaced};
 
 use simdutf8::basic::from_utf8;
@@ -13,12 +13,18 @@ const NO_MEMORY: u8 = 3;
 
 const NO_ROOM: u8 = 4;
 
-/// Writes the line and the column before each of these bytes of a text over the front of `places`.
-/// Both count from 1, columns in characters. Both are 0 for a byte within a character or after the
-/// end of the text.
+/// Writes the line and the column of each offset in `bytes` to the start of `places`.
 ///
-/// Returns 0, or 2 if the text is not UTF-8, 3 if an allocation failed, 4 if there are fewer places
-/// than bytes. Nothing is written then.
+/// `bytes` contains byte offsets in `text`. Lines and columns are counted from 1, and a column is a
+/// number of characters. Both numbers are 0 for an offset within a character or after the end of
+/// the text.
+///
+/// Returns 0 if the call succeeds. Otherwise, the call writes nothing and returns one of the
+/// following numbers:
+///
+/// - 2 if `text` is not UTF-8.
+/// - 3 if an allocation failed.
+/// - 4 if `places` has fewer elements than `bytes`.
 #[unsafe(no_mangle)]
 pub extern "C" fn syn_tokens_lines(
     alloc: Global,

@@ -1,4 +1,4 @@
-//! Texts read into memory that the library keeps.
+//! A function that reads a text into memory that the library keeps.
 ghost use Rattle.std.specs.Prelude.{◌⊎◌};
 ghost use Rattle.std.specs.Str.{chars};
 ghost use Rattle.syn_tokens_c.specs.Opened.{Hands, HandsAnswer, HandsNothing, HandsOver, Opens, follows};
@@ -21,14 +21,17 @@ const NO_MEMORY: u32 = 3;
 
 const NO_EDITION: u32 = 5;
 
-/// What came of a text, and where its entries and bytes lie until the handle is closed. If the
-/// handle holds nothing, both pointers are null.
+/// The outcome of opening a text, with pointers to the entries and the bytes that were read.
+///
+/// The pointers are valid until the handle is closed or opened again. If the handle holds no
+/// memory, both pointers are null.
 #[repr(C)]
 #[derive(Clone, Copy)]
 pub struct Opened {
     pub reading: Reading,
     pub entries: *const Entry,
-    /// The texts of the leaves, or the words of the error. A zero follows.
+    /// A pointer to the texts of the leaves, or to the text of the error, with a zero byte at the
+    /// end.
     pub bytes: *const u8,
 }
 
@@ -118,13 +121,15 @@ fn lex_by(alloc: Global, rules: Rules, text: &str) -> Result<LexedEntries, LexFa
     }
 }
 
-/// Reads a text by the rules of this number: 0 for those of `lex`, 1 for `lex_marked`, and for
-/// `lex_source` the year of an edition, which is 2015, 2018, 2021 or 2024. The handle then holds
-/// the entries and the bytes, and `opened` says where they lie. What the handle held before is
-/// freed.
+/// Reads `text` into memory that `handle` then holds, and writes pointers to the entries and the
+/// bytes to `opened`.
 ///
-/// If the text is not UTF-8, there is no such edition or an allocation fails, the handle holds
-/// nothing.
+/// `rules` is 0 for the rules of `lex`, or 1 for the rules of `lex_marked`. For the rules of
+/// `lex_source`, `rules` is the year of an edition (2015, 2018, 2021 or 2024). The call frees the
+/// memory that `handle` held before.
+///
+/// If `text` is not UTF-8, if there is no such edition, or if an allocation fails, `handle` holds
+/// no memory after the call.
 #[unsafe(no_mangle)]
 pub extern "C" fn syn_tokens_open(
     alloc: Global,

@@ -1,4 +1,4 @@
-//! Texts read into entries.
+//! Functions that read texts into entries.
 ghost use Rattle.std.specs.Prelude.{◌≡◌, IfOk};
 ghost use Rattle.tok_core.specs.Lexical.Outcome.{FollowsGrammar};
 ghost use Rattle.tok_core.specs.declared.lexer.error.LexFault.TheVariants.{Refused};
@@ -22,20 +22,23 @@ const NO_ROOM: u32 = 4;
 
 const NO_EDITION: u32 = 5;
 
-/// What came of a text.
+/// The outcome of a call that reads a text.
 #[repr(C)]
 #[derive(Clone, Copy)]
 pub struct Reading {
-    /// 0 if it was read, 1 if the grammar rejects it, 2 if it is not UTF-8, 3 if an allocation
-    /// failed, 4 if there is too little room, 5 if there is no such edition.
+    /// The status: 0 if the text was read, 1 if the grammar rejects the text, or 2 if the text is
+    /// not UTF-8. The status is 3 if an allocation failed, 4 if there is too little room, or 5 if
+    /// there is no such edition.
     pub status: u32,
-    /// Of a rejected text, the number of the rule: 1 for L1.
+    /// The number of the grammar rule that rejects the text, such as 1 for rule L1.
     pub rule: u32,
-    /// Of a rejected text, the byte at which the token, comment or group begins that is not read.
+    /// The offset of the byte at which the lexer rejects the text. The token, comment or group that
+    /// can't be read begins at this byte.
     pub at: usize,
-    /// How many entries there are to write.
+    /// The number of entries of the text, even if there was too little room to write them.
     pub entries: usize,
-    /// How many bytes there are to write: the texts of the leaves, or the words of the error.
+    /// The number of bytes in the texts of the leaves, or in the text of the error, even if there
+    /// was too little room to write them.
     pub bytes: usize,
 }
 
@@ -153,10 +156,13 @@ pub(crate) fn edition_of(year: u32) -> Option<Edition>
     }
 }
 
-/// Reads a text by the rules of `lex`. `reading` says what came of it. The entries, and the texts
-/// of the leaves in order or the words of the error, are written over the front of what the caller
-/// lends. If there is not enough room, nothing is written: `reading` then says how much it takes,
-/// and the call can be made again.
+/// Reads `text` by the rules of `lex`, and writes the outcome to `reading`.
+///
+/// The call writes the entries to the start of `entries`. It writes the texts of the leaves, in
+/// order, or the text of the error to the start of `bytes`.
+///
+/// If one of these slices is too short, the call writes to neither of them. `reading` then contains
+/// the required lengths, and the caller can repeat the call with longer slices.
 #[unsafe(no_mangle)]
 pub extern "C" fn syn_tokens_lex(
     alloc: Global,
@@ -174,8 +180,10 @@ pub extern "C" fn syn_tokens_lex(
     };
 }
 
-/// Reads a text by the rules of `lex_marked`: « and » open and close invisible groups, and take no
-/// bytes in spans. As `syn_tokens_lex`.
+/// Reads `text` by the rules of `lex_marked`, and writes the outcome to `reading`.
+///
+/// The characters `«` and `»` open and close invisible groups. Spans do not count the bytes of
+/// these characters. The call writes `entries` and `bytes` in the same way as `syn_tokens_lex`.
 #[unsafe(no_mangle)]
 pub extern "C" fn syn_tokens_lex_marked(
     alloc: Global,
@@ -198,8 +206,10 @@ pub extern "C" fn syn_tokens_lex_marked(
     };
 }
 
-/// Reads a whole Rust source by the rules of `lex_source`, of the edition of this year: 2015, 2018,
-/// 2021 or 2024. As `syn_tokens_lex`.
+/// Reads a whole Rust source by the rules of `lex_source`, and writes the outcome to `reading`.
+///
+/// `year` is the year of the edition: 2015, 2018, 2021 or 2024. The call writes `entries` and
+/// `bytes` in the same way as `syn_tokens_lex`.
 #[unsafe(no_mangle)]
 pub extern "C" fn syn_tokens_lex_source(
     alloc: Global,

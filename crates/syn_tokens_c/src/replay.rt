@@ -1,4 +1,4 @@
-//! Commands, run over entries.
+//! A function that runs commands over entries.
 ghost use Rattle.syn_tokens_c.specs.Replayed.{AnswersReport, IsReplayed};
 
 use entry_outcomes::{Answer, EntriesFault, Outcome, read_entries, write};
@@ -6,12 +6,16 @@ use replay_program::respond_to;
 use std::alloc::{AllocError, Global};
 use tok_entries::Entry;
 
-/// Runs the commands of a text, one a line, over entries without the invisible groups that hold
-/// nothing visible. The report is written over the front of `printed`. The status is 0 if
-/// everything was read, 1 if not, 2 if a line is no command, which the text then says.
+/// Runs commands over `entries`, and writes the report to the start of `printed`.
 ///
-/// If there is not enough room, nothing is written: `outcome` then says how much it takes, and the
-/// call can be made again.
+/// `commands` is a text with one command on each line. The call first removes the invisible groups
+/// that contain no visible token.
+///
+/// The status in `outcome` is 0 if the report accepts the tokens, 1 if the report rejects the
+/// tokens, and 2 if a line is not a command. For status 2, the printed text names the line.
+///
+/// If `printed` is too short, the call writes nothing to it. `outcome` then contains the required
+/// length, and the caller can repeat the call with a longer slice.
 #[unsafe(no_mangle)]
 pub extern "C" fn syn_tokens_replay(
     alloc: Global,

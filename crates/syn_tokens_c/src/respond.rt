@@ -1,13 +1,18 @@
-//! Commands, and what they print.
+//! A function that runs the program over an input in memory.
 ghost use Rattle.syn_tokens_c.specs.Outcomes.{Responds};
 
 use replay_program::respond;
 use std::alloc::{AllocError, Global};
 
-/// Answers an input as the program does, and returns its status: a text, or two, and commands.
-/// `size` says how many bytes the program prints. They are written over the front of `printed` if
-/// they fit there, and else nothing is written: the same call with more room writes them. The
-/// status is 3 if an allocation fails, and `size` is 0 then.
+/// Runs the program over `input`, and returns the program's exit status.
+///
+/// `input` contains one or two texts and a list of commands. The call sets `size` to the number of
+/// bytes that the program prints.
+///
+/// If these bytes fit into `printed`, the call writes them to the start of `printed`. Otherwise,
+/// the call writes nothing to `printed`, and the caller can repeat the call with a longer slice.
+///
+/// If an allocation fails, the status is 3 and `size` is 0.
 #[unsafe(no_mangle)]
 pub extern "C" fn syn_tokens_respond(
     alloc: Global,

@@ -1,11 +1,12 @@
-//! By which rules a text is read.
+//! The rules by which a text is read.
 ghost use Rattle.std.specs.Prelude.{◌≡◌};
 ghost use Rattle.syn_tokens_c.specs.Rules.{rules_of};
 
 use crate::read::edition_of;
 use tok_core::Edition;
 
-/// The rules of a call: those of `lex`, of `lex_marked`, or of `lex_source` of an edition.
+/// The rules by which a call reads a text: the rules of `lex`, of `lex_marked`, or of `lex_source`
+/// for an edition.
 #[derive(Clone, Copy)]
 pub enum Rules {
     Plain,

@@ -1,4 +1,4 @@
-//! How the structs are laid out.
+//! Functions that write sample structs, with which a caller can check the layout of its structs.
 ghost use Rattle.std.specs.Prelude.{◌≡◌, length, replicate};
 ghost use Rattle.syn_tokens_c.specs.Samples.{argument_sample, entry_sample, message_sample, opened_sample, outcome_sample, place_sample, reading_sample, step_sample, IsValueSample};
 
@@ -24,9 +24,11 @@ fn reading_sample() -> Reading
     }
 }
 
-/// Writes structs in which each field has a value of its own, so that a caller can see whether its
-/// structs are laid out as these: the fields of an entry are 1 to 8 in the order of their
-/// declaration, and those of a reading are 9 to 13.
+/// Writes sample structs in which every field has a different value.
+///
+/// A caller can compare these values to check that its structs have the same layout. The fields of
+/// an entry have the values 1 to 8, in the order of their declaration. The fields of a reading have
+/// the values 9 to 13.
 #[unsafe(no_mangle)]
 pub extern "C" fn syn_tokens_sample(entries: &mut [Entry], reading: &mut Reading)
     ensures entries { entries.new ≡ replicate (length entries.old) entry_sample }
@@ -45,11 +47,16 @@ pub extern "C" fn syn_tokens_sample(entries: &mut [Entry], reading: &mut Reading
     *reading = reading_sample();
 }
 
-/// Writes structs of the calls that take entries, as `syn_tokens_sample` does: the fields of an
-/// outcome are 14 to 19, those of a message 20 to 23, those of an argument 24 to 29, and those of a
-/// value 30 to 34; its double is 0.
+/// Writes samples of the structs for calls that parse entries, in the same way as
+/// `syn_tokens_sample`.
 ///
-/// This is a call of its own, so that an older caller of `syn_tokens_sample` lends what it did.
+/// - The fields of an outcome have the values 14 to 19.
+/// - The fields of a message have the values 20 to 23.
+/// - The fields of an argument have the values 24 to 29.
+/// - The fields of a value have the values 30 to 34, except for `float`, which is 0.
+///
+/// This is a separate call, so that an older caller of `syn_tokens_sample` still lends enough
+/// memory.
 #[unsafe(no_mangle)]
 pub extern "C" fn syn_tokens_sample_answers(
     outcome: &mut Outcome,
@@ -94,10 +101,12 @@ pub extern "C" fn syn_tokens_sample_answers(
     };
 }
 
-/// Writes structs of the calls of a cursor and of lines, as `syn_tokens_sample` does: the fields of
-/// a step are 35 to 37, and those of a place 38 and 39.
+/// Writes samples of the structs for cursors and lines, in the same way as `syn_tokens_sample`.
 ///
-/// This is a call of its own, so that older callers lend what they did.
+/// The fields of a step have the values 35 to 37, and the fields of a place have the values 38 and
+/// 39.
+///
+/// This is a separate call, so that an older caller of the other calls still lends enough memory.
 #[unsafe(no_mangle)]
 pub extern "C" fn syn_tokens_sample_places(step: &mut Step, places: &mut [LineColumn])
     ensures step { step.new ≡ step_sample }
@@ -114,8 +123,10 @@ pub extern "C" fn syn_tokens_sample_places(step: &mut Step, places: &mut [LineCo
     });
 }
 
-/// Writes structs of the call that opens a text: the readings are as `syn_tokens_sample` writes one,
-/// and the pointers are null. How far apart two of them are shows their size.
+/// Writes samples of the struct that `syn_tokens_open` fills in.
+///
+/// The fields of each reading have the values that `syn_tokens_sample` writes, and the pointers are
+/// null. The distance between two adjacent structs shows the size of a struct.
 #[unsafe(no_mangle)]
 pub extern "C" fn syn_tokens_sample_opened(opened: &mut [Opened])
     ensures { opened.new ≡ replicate (length opened.old) opened_sample }

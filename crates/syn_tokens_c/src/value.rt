@@ -1,4 +1,4 @@
-//! The value of a literal.
+//! A function that reads the value of a literal.
 ghost use Rattle.std.specs.Prelude.{◌≡◌, [], IfOk};
 ghost use Rattle.tok_leaves.specs.Leaves.{leaf_text, literal_of};
 ghost use Rattle.syn_tokens_c.specs.Values.{Gives, HasBytesAlone, HasNeither, IsBare, IsValue, IsValued};
@@ -31,23 +31,27 @@ const INTEGER: u32 = 5;
 
 const FLOAT: u32 = 6;
 
-/// The value of a literal.
+/// The value of a literal, as a plain struct.
 #[repr(C)]
 #[derive(Clone, Copy)]
 pub struct LiteralValue {
-    /// 0 if the text was read, 2 if it is not UTF-8, 3 if an allocation failed, 4 if there is too
-    /// little room.
+    /// The status: 0 if the text was read, 2 if the text is not UTF-8, 3 if an allocation failed,
+    /// or 4 if there is too little room.
     pub status: u32,
-    /// 1 for a string, 2 for a byte string, 3 for a character, 4 for a byte, 5 for an integer below
-    /// 2^64, 6 for a float or a decimal integer above; 0 if the literal has none of these values.
+    /// The kind of the value: 1 for a string, 2 for a byte string, 3 for a character, or 4 for a
+    /// byte. The kind is 5 for an integer below 2^64, or 6 for a float or a larger decimal integer.
+    /// If the literal has none of these values, the kind is 0.
     pub kind: u32,
-    /// The code of a character, or the value of a byte or an integer. 0 for all others.
+    /// The code point of a character, or the value of a byte or an integer. For a value of another
+    /// kind, this number is 0.
     pub number: u64,
-    /// The nearest double to a float. 0 for all others.
+    /// The double that is nearest to the value of a float. For a value of another kind, this number
+    /// is 0.
     pub float: f64,
-    /// How many bytes the suffix of an integer has. 0 for all others.
+    /// The number of bytes in the suffix of an integer. For a value of another kind, this number is
+    /// 0.
     pub suffix: usize,
-    /// How many bytes there are to write: the value of a string or a byte string.
+    /// The number of bytes in the value of a string or a byte string.
     pub bytes: usize,
 }
 
@@ -171,9 +175,11 @@ fn read(alloc: Global, text: &str) -> Result<Found, AllocError>
     find(alloc, &literal)
 }
 
-/// Reads the text of a literal, as a leaf has it. The value of a string or a byte string is written
-/// over the front of `bytes`. If there is not enough room, nothing is written: `value` then says how
-/// much it takes, and the call can be made again.
+/// Reads the value of a literal from the text of its leaf, and writes the value to `value`.
+///
+/// The call writes the value of a string or a byte string to the start of `bytes`. If `bytes` is
+/// too short, the call writes nothing to it. `value` then contains the required length, and the
+/// caller can repeat the call with a longer slice.
 #[unsafe(no_mangle)]
 pub extern "C" fn syn_tokens_value(
     alloc: Global,

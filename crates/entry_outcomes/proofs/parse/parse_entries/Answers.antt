@@ -22,4 +22,5 @@ returns-in-Ok g c =
 pub returns-in-Err : goal.returns-in-Err
 returns-in-Err g c =
     stops (FnOnceReturnsAtMut g.F.FnOnce c.args.parser) c.args.entries.now c.args.texts.now
-    c.in-Err.fault c.from.result c.from.ensures c.in-Err.ensures.refuses c.in-Err.ensures.names
+    c.in-Err.fault c.from.result c.from.ensures c.in-Err.ensures.refuses c.in-Err.ensures.blames
+    c.in-Err.ensures.names

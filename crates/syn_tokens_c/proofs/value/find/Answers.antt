@@ -13,7 +13,7 @@ returns-in-None c =
       c.of_float-in-None.ensures.kind,
       record {
         string = unmatched _ _ c.in_default.not-Some c.in_ok-text.ensures.grammar;
-        bytes = unmatched _ _ c.in_default-2.not-Some c.in_ok-bytes.ensures;
+        bytes = unmatched _ _ c.in_default-2.not-Some c.in_ok-bytes.ensures.value;
         character = unmatched _ _ c.in_default-char_value.not-Some c.char_value.ensures;
         byte = unmatched _ _ c.in_default-byte_value.not-Some c.byte_value.ensures;
         integer =
