@@ -4,11 +4,12 @@ use Rattle.tok_leaves.specs.Spans.{whole_span}
 use Rattle.tok_leaves.specs.declared.ident.Ident.{Ident}
 use Rattle.tok_leaves.specs.declared.literal.Literal.{Literal}
 use Rattle.tok_types.specs.declared.delimiter.Visible.{Visible}
+use Rattle.syn_parse.specs.TokenNames.{Eq, Token}
 use Rattle.syn_punctuated.proofs.Mapped.{values_mapped}
 use Rattle.arguments.specs.Forms.{argument_form, argument_level, assigned, flag, list_form}
 use Rattle.arguments.specs.Forms.{listed, value_form, value_level}
 use Rattle.arguments.specs.Reading.{argument_again}
-use Rattle.arguments.specs.Values.{Arguments, Equals}
+use Rattle.arguments.specs.Values.{Arguments}
 use Rattle.arguments.specs.declared.argument.Value.{Value}
 use Rattle.arguments.specs.declared.argument.Value.TheFolds.{fold-roll-Argument, fold-roll-Value}
 use Rattle.arguments.specs.declared.argument.Value.TheVariants as made
@@ -16,7 +17,7 @@ use Rattle.arguments.specs.declared.argument.Value.TheVariants as made
 pub form_flag : (name : Ident) → value_form made.Flag name ≡ flag name
 form_flag name = rw (← made.rolls-Flag, fold-roll-Value)
 
-pub form_assigned : (name : Ident) (equals : Equals) (text : Literal)
+pub form_assigned : (name : Ident) (equals : Token Eq) (text : Literal)
     → value_form (made.Literal equals text) name ≡ assigned name equals text
 form_assigned name equals text = rw (← made.rolls-Literal, fold-roll-Value)
 

@@ -1,5 +1,4 @@
 pub mod Formed
+pub mod Grammar
 pub mod Outcomes
 pub mod Returned
-pub mod Sound
-pub mod Written

@@ -20,16 +20,15 @@ use Rattle.arguments.specs.Reading.{take_arguments}
 use Rattle.arguments.specs.Results.{Agree, Parses, ParsesTo, SaysWhy, with_fault}
 use Rattle.arguments.specs.Same.{SameArguments}
 use Rattle.arguments.specs.Values.{Arguments}
-use Rattle.arguments.proofs.Sound.{sound}
-use Rattle.arguments.proofs.Written.{arguments_taken}
+use Rattle.arguments.proofs.Grammar.{arguments_taken, sound}
 
 abbrev pub Taken : Forest → Result Arguments Fault → Type 0
 Taken f = TakesAll list_form take_arguments f call_site
 
 pub parses : (f : Forest) (r : Result Arguments Fault) → Taken f r → Parses (erase f) r
-parses f (Ok arguments) h = (sound (erase f) (list_form arguments) all_taken h).1
+parses f (Ok arguments) h = (sound.taken (erase f) all_taken (list_form arguments) h).1
 parses f (Err (Refused e)) h = inr
-    (λ arguments l. h.0.0 (list_form arguments) (arguments_taken (erase f) (list_form arguments) l))
+    (λ arguments l. h.0.0 (list_form arguments) (arguments_taken l))
 parses f (Err (Memory e)) h = inl tt
 
 -- what is returned, of any forest
@@ -38,12 +37,12 @@ IsTaken f arguments = IsAll take_arguments f (list_form arguments)
 
 pub value_is : (f : Forest) (r : Result Arguments Fault) → IfOk r (IsTaken f)
     → IfOk r (AreArguments (erase f))
-value_is f (Ok arguments) h = (sound (erase f) (list_form arguments) all_taken h).1
+value_is f (Ok arguments) h = (sound.taken (erase f) all_taken (list_form arguments) h).1
 value_is f (Err e) h = tt
 
 pub kept_is : (f : Forest) (r : Result Arguments (List Message)) → IfOk (with_fault r) (IsTaken f)
     → IfOk r (AreArguments (erase f))
-kept_is f (Ok arguments) h = (sound (erase f) (list_form arguments) all_taken h).1
+kept_is f (Ok arguments) h = (sound.taken (erase f) all_taken (list_form arguments) h).1
 kept_is f (Err e) h = tt
 
 pub says : (f : Forest) (r : Result Arguments Fault) → filled f ≡ true → Taken f r → SaysWhy f r
@@ -53,14 +52,14 @@ says f (Err (Refused e)) i h = go (take_arguments (whole f)) refl (h.1 i) where
   go : (o : Outcome ListForm) → take_arguments (whole f) ≡ o
       → SaysAll f call_site o (Refused e) → SaysWhy f (Err (Refused e))
   go (found x left) k m =
-      absurd (h.0.0 x (k ∙ ap (found x) (sound (erase f) x left k).0))
+      absurd (h.0.0 x (k ∙ ap (found x) (sound.taken (erase f) left x k).0))
   go (missing lack) k m = (lack, k, m)
 
 pub parses_to : (f : Forest) (r : Result Arguments (List Message)) → filled f ≡ true
     → Taken f (with_fault r) → ParsesTo f r
 parses_to f (Ok arguments) i h = parses f (Ok arguments) h
 parses_to f (Err e) i h = (
-  λ arguments l. h.0.0 (list_form arguments) (arguments_taken (erase f) (list_form arguments) l),
+  λ arguments l. h.0.0 (list_form arguments) (arguments_taken l),
   says f (Err (Refused e)) i h,
 )
 
@@ -68,7 +67,7 @@ parses_to f (Err e) i h = (
 pub one_list : (f : Forest) (left right : Arguments) → AreArguments f left → AreArguments f right
     → SameArguments left right
 one_list f left right h k =
-    found_first (sym (arguments_taken f (list_form left) h) ∙ arguments_taken f (list_form right) k)
+    found_first (sym (arguments_taken h) ∙ arguments_taken k)
 
 same_lack : (o : Outcome ListForm) (left right : Missing) → o ≡ missing left → o ≡ missing right
     → left ≡ right

@@ -11,16 +11,14 @@ use Rattle.tok_core.specs.Weight.{weight}
 use Rattle.tok_leaves.specs.declared.span.Span.{Span}
 use Rattle.syn_parse.proofs.Failing.{stays_along, stays_here}
 use Rattle.syn_parse.proofs.Finished.{finish_takes_all}
-use Rattle.syn_parse.proofs.Shapes.{then_found}
-use Rattle.syn_parse.specs.Lighter.{lowers_ident, lowers_punctuation}
+use Rattle.syn_parse.specs.Lighter.{lightens_lower, lowers_token}
 use Rattle.syn_parse.specs.Parsers.{ParsesWhole, whole_stream}
 use Rattle.syn_parse.specs.Progress.{PunctuationTypeParses}
 use Rattle.syn_parse.specs.Reads.{Call}
 use Rattle.syn_parse.specs.State.{State}
 use Rattle.syn_parse.specs.Takes.{IsAll, Stays, TakesAs, Taking, found}
-use Rattle.syn_parse.specs.Takings.{Lightens, Lowers}
-use Rattle.syn_parse.specs.TokenNames.{take_comma}
-use Rattle.syn_parse.specs.Tokens.{take_ident}
+use Rattle.syn_parse.specs.Takings.{Lowers}
+use Rattle.syn_parse.specs.TokenNames.{Comma, take}
 use Rattle.syn_parse.specs.TreesAhead.{Ahead, ahead}
 use Rattle.syn_parse.specs.declared.fault.Fault.{Fault}
 use Rattle.syn_punctuated.proofs.ListShapes.{Turns, bare as last, done, takes_list, turn as one}
@@ -32,12 +30,10 @@ use Rattle.syn_punctuated.specs.Turns.{Chain, Ending, IsRun, Turn, ValueCall, at
 use Rattle.syn_punctuated.specs.Turns.{separator_refused, terminated, turn_lost, turn_separator}
 use Rattle.syn_punctuated.specs.Turns.{turn_value, value_lost, value_refused}
 use Rattle.syn_punctuated.specs.declared.punctuated.Punctuated.{Punctuated}
-use Rattle.arguments.specs.Forms.{Form, argument_form, list_form}
-use Rattle.arguments.specs.Reading.{TakesIfOk, argument_again, take_argument, take_arguments}
-use Rattle.arguments.specs.Reading.{take_value}
+use Rattle.arguments.specs.Forms.{argument_form, list_form}
+use Rattle.arguments.specs.Reading.{TakesIfOk, lowers_argument, take_argument, take_arguments}
 use Rattle.arguments.specs.Values.{Arguments}
 use Rattle.arguments.specs.declared.argument.Argument.{Argument}
-use Rattle.arguments.proofs.Sound.{lightens_argument}
 
 -- something is left where less can follow
 pub left_before : (n : ℕ) (f : Forest) → n < weight f → not (not (has_trees f)) ≡ true
@@ -47,15 +43,17 @@ left_before n (tree t f) l = refl
 none_left : (f : Forest) → f ≡ no_trees → not (not (has_trees f)) ≡ false
 none_left f e = ap (λ g. not (not (has_trees g))) e
 
--- A list that is returned, up to the end. Its values each begin at a visible tree.
+-- A list that is returned, up to the end. Its values each take something.
 module _ {T P F A S : Type 0} (reads : ValueCall F T) (separates : Call P) (form : T → A)
-    (value : Taking A) (light : Lightens value) (shape : P → S) (sign : Taking S)
+    (value : Taking A) (low : Lowers value) (shape : P → S) (sign : Taking S)
     (lower : Lowers sign)
-    (begun : (a b : Ahead) (v : A) → value a ≡ found v b → is_left a ≡ true)
     (each : (f g : F) (s t : State) (r : Result T Fault) → reads f s r g t
     → TakesIfOk form value s r t)
     (signs : (s t : State) (r : Result P Fault) → separates s r t → TakesAs shape sign s r t)
   where
+    begun : (a b : Ahead) (v : A) → value a ≡ found v b → is_left a ≡ true
+    begun a b v e = left_before _ a.trees (low.less a b v e)
+
     abbrev Are : Ahead → List A → List S → Ahead → Type 0
     Are = Turns is_left is_left value sign
 
@@ -103,7 +101,8 @@ module _ {T P F A S : Type 0} (reads : ValueCall F T) (separates : Call P) (form
           → separators_of list ≡ map turn_separator turns
           → take_terminated value sign (ahead s) ≡ found (lists.list_form form shape list) (ahead t)
       as_taken turns more h i j =
-          takes_list is_left is_left value sign light lower (ahead s) (ahead t) _ _ h
+          takes_list is_left is_left value sign (lightens_lower value low) lower (ahead s) (ahead t)
+          _ _ h
           ∙ ap (λ x. found x (ahead t)) (sym (as_list turns more list i j))
 
       ending_taken : (turns : List (Turn T P F)) (g : F) (u : State)
@@ -148,13 +147,6 @@ whole_returned form take f scope calls each (Ok v) (inl (Err e, left, run, ends)
 whole_returned form take f scope calls each (Ok v) (inr m) = absurd m
 whole_returned form take f scope calls each (Err e) h = tt
 
--- an argument begins with a name
-begins : (a b : Ahead) (f : Form) → take_argument a ≡ found f b → is_left a ≡ true
-begins a b f e =
-    let name = then_found (take_ident a) (take_value take_arguments) f b
-    (sym (argument_again a) ∙ e) in
-    left_before _ a.trees (lowers_ident.less a name.after name.value name.first)
-
 pub arguments_returned : {F : Type 0} {reads : ValueCall F Argument} {f : F} {s t : State}
     {r : Result Arguments Fault}
     → ((f g : F) (s t : State) (r : Result Argument Fault) → reads f s r g t
@@ -164,5 +156,5 @@ pub arguments_returned : {F : Type 0} {reads : ValueCall F Argument} {f : F} {s 
     → TakesIfOk list_form take_arguments s r t
 arguments_returned {reads = reads} {f = f} {s = s} {t = t} {r = r} each ends run =
     list_returned reads (Separates (PunctuationTypeParses 7 1) (signs 7 1)) argument_form
-    take_argument lightens_argument (λ p. p) take_comma (lowers_punctuation 7 1) begins each
+    take_argument lowers_argument (λ p. p) (take Comma) (lowers_token _) each
     (λ s t r k. k.1) f s t r ends run

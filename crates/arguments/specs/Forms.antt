@@ -4,9 +4,10 @@ use Rattle.tok_leaves.specs.declared.ident.Ident.{Ident}
 use Rattle.tok_leaves.specs.declared.literal.Literal.{Literal}
 use Rattle.tok_leaves.specs.declared.span.Span.{Span}
 use Rattle.tok_leaves.specs.Spans.{whole_span}
+use Rattle.syn_parse.specs.TokenNames.{Comma, Eq, Token}
 use Rattle.syn_punctuated.specs.Lists.{values_of, separators_of}
 use Rattle.syn_punctuated.specs.TakeLists as lists
-use Rattle.arguments.specs.Values.{Arguments, Comma, Equals}
+use Rattle.arguments.specs.Values.{Arguments}
 use Rattle.arguments.specs.declared.argument.Argument.{Argument}
 use Rattle.arguments.specs.declared.argument.Value.{Value}
 use Rattle.arguments.specs.declared.argument.Value.TheFolds.{fold-Argument, fold-Value}
@@ -16,8 +17,8 @@ mutual
   -- a name; a name, `=` and a literal; or a name and, in parentheses of this span, arguments
   pub data Form : Type 0 where
     flag : Ident → Form
-    assigned : Ident → Equals → Literal → Form
-    with_list : Ident → Span → Forms → List Comma → Form
+    assigned : Ident → Token Eq → Literal → Form
+    with_list : Ident → Span → Forms → List (Token Comma) → Form
 
   -- no argument, or a first one and the others
   pub data Forms : Type 0 where
@@ -30,7 +31,7 @@ forms [] = none
 forms (f ∷ fs) = one_more f (forms fs)
 
 -- a name, and in parentheses of this span arguments
-abbrev pub listed : Ident → Span → List Form × List Comma → Form
+abbrev pub listed : Ident → Span → List Form × List (Token Comma) → Form
 listed name span list = with_list name span (forms list.0) list.1
 
 -- a value after a name, with the forms of the arguments within it in their place
@@ -54,7 +55,7 @@ argument_form = fold-Argument (Ident → Form) Form value_level argument_level
 
 -- the forms of arguments, and their commas
 abbrev pub ListForm : Type 0
-ListForm = List Form × List Comma
+ListForm = List Form × List (Token Comma)
 
 -- arguments as contracts see them
 abbrev pub list_form : Arguments → ListForm

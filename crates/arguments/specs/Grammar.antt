@@ -7,8 +7,9 @@ use Rattle.tok_leaves.specs.declared.ident.Ident.{Ident}
 use Rattle.tok_leaves.specs.declared.literal.Literal.{Literal}
 use Rattle.tok_leaves.specs.declared.punct.Spacing.{Spacing}
 use Rattle.tok_leaves.specs.declared.span.Span.{Span}
+use Rattle.syn_parse.specs.TokenNames.{Comma, Token}
 use Rattle.arguments.specs.Forms.{Form, ListForm, assigned, flag, forms, list_form, with_list}
-use Rattle.arguments.specs.Values.{Arguments, Comma, IsName, sign_at}
+use Rattle.arguments.specs.Values.{Arguments, IsName, sign_at}
 
 -- the codes of `=` and `,`
 abbrev pub equals_sign : ℕ
@@ -31,18 +32,18 @@ mutual
         (leaf (ident_of name) ∷ sign equals_sign spacing span ∷ leaf (literal_of text) ∷ [])
         (assigned name (sign_at span) text)
     is_list : (name : Ident) (inside : Forest) (span : Span) (inner : List Form)
-        (commas : List Comma) → IsName name → AreListed inside inner commas
+        (commas : List (Token Comma)) → IsName name → AreListed inside inner commas
         → IsArgument (leaf (ident_of name) ∷ group Parenthesis inside span ∷ [])
         (with_list name span (forms inner) commas)
 
   -- A list of arguments and its commas: nothing; or one argument; or one, a comma and a list.
-  pub data AreListed : Forest → List Form → List Comma → Type 0 where
+  pub data AreListed : Forest → List Form → List (Token Comma) → Type 0 where
     nothing : AreListed no_trees [] []
     last : (trees : List Tree) (argument : Form) → IsArgument trees argument
         → AreListed (forest trees) (argument ∷ []) []
     and_more : (trees : List Tree) (argument : Form) (spacing : Spacing) (span : Span)
-        (rest : Forest) (others : List Form) (commas : List Comma) → IsArgument trees argument
-        → AreListed rest others commas
+        (rest : Forest) (others : List Form) (commas : List (Token Comma))
+        → IsArgument trees argument → AreListed rest others commas
         → AreListed (concat (forest trees) (tree (sign comma spacing span) rest))
         (argument ∷ others) (sign_at span ∷ commas)
 

@@ -4,20 +4,13 @@ use Rattle.tok_leaves.specs.declared.ident.Ident.{Ident}
 use Rattle.tok_leaves.specs.declared.span.Span.{Span}
 use Rattle.tok_types.specs.Texts.{accept_as_ident}
 use Rattle.tok_types.specs.declared.punctuation.Punctuation.{Punctuation}
+use Rattle.syn_parse.specs.TokenNames.{Comma, Token}
 use Rattle.syn_punctuated.specs.declared.punctuated.Punctuated.{Punctuated}
 use Rattle.arguments.specs.declared.argument.Argument.{Argument}
 
--- the tokens `=` and `,`, by their numbers in the table of punctuations
-abbrev pub Equals : Type 0
-Equals = Punctuation 13 1
-
--- the type of `,`
-abbrev pub Comma : Type 0
-Comma = Punctuation 7 1
-
 -- arguments and the commas between them
 abbrev pub Arguments : Type 0
-Arguments = Punctuated Argument Comma
+Arguments = Punctuated Argument (Token Comma)
 
 -- a token of one character, at this span
 abbrev pub sign_at : {k : ℕ} → Span → Punctuation k 1

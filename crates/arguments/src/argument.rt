@@ -1,9 +1,9 @@
-//! The values of arguments.
+//! Types for arguments and their values.
 use syn_punctuated::Punctuated;
 use tok_core::{Ident, Literal};
 use tok_types::token;
 
-/// An argument: a name, and its value.
+/// An argument, which consists of a name and a value, such as `name = 1`.
 #[cycle(arguments)]
 #[derive(Drop)]
 pub struct Argument {
@@ -11,7 +11,7 @@ pub struct Argument {
     pub value: Value,
 }
 
-/// The value of an argument: none, a literal after `=`, or arguments in parentheses.
+/// The value of an argument: nothing, a literal after `=`, or arguments in parentheses.
 #[cycle(arguments)]
 #[derive(Drop)]
 pub enum Value {
@@ -20,5 +20,5 @@ pub enum Value {
     List(token::Paren, Punctuated<Argument, token::Comma>),
 }
 
-/// Arguments with commas between them. There may be one after the last.
+/// A list of arguments with commas between them, and an optional comma after the last argument.
 pub type Arguments = Punctuated<Argument, token::Comma>;

@@ -1,7 +1,8 @@
-//! A parser of arguments: `name`, `name = literal` and `name(..)`, separated by commas and nested.
+//! A parser of nested arguments, such as `name`, `name = literal` and `name(..)`, with commas
+//! between them.
 //!
-//! It is the first language on the layer of streams, and shows how one is built and proved: it uses
-//! the public calls and laws of the crates below, and nothing else.
+//! This crate shows how to build a language on parse streams, and how to prove its parser. It uses
+//! only the public calls and laws of the crates that it depends on.
 #![tactic(auto)]
 
 mod argument;

@@ -24,11 +24,12 @@ use tok_buffer::Error;
 use tok_core::TokenStream;
 use tok_types::token;
 
-/// Parses all of these tokens as arguments. If they are none, returns the error of the first parser
-/// that fails.
+/// Parses all tokens of a stream as arguments.
 ///
-/// An empty invisible group at the end of a list is an error. `visible_arguments` leaves such groups
-/// out first.
+/// If the tokens are not arguments, returns the error of the first parser that fails.
+///
+/// An empty invisible group at the end of a list is an error. The function `visible_arguments`
+/// removes such groups first.
 ///
 /// # Examples
 ///
@@ -45,7 +46,7 @@ pub fn parse_arguments(alloc: Global, tokens: TokenStream) -> Result<Arguments>
     parse_whole(alloc, tokens)
 }
 
-/// Parses the arguments up to the end of a stream.
+/// Parses arguments up to the end of the stream.
 pub fn parse_to_end(input: ParseStream<'_, '_>) -> Result<Arguments>
     ensures value { TakesIfOk list_form take_arguments input.old result input.new }
     ensures keeps { Keeps arguments input.old result input.new }
@@ -53,10 +54,13 @@ pub fn parse_to_end(input: ParseStream<'_, '_>) -> Result<Arguments>
     read_arguments(input)
 }
 
-/// Parses two streams of tokens as arguments.
+/// Parses two streams, `left` and `right`, as arguments.
 ///
-/// If they differ only in invisible groups, the lists are the same, spans included, or the errors
-/// have the same texts. A failed allocation takes the place of both results.
+/// Suppose that the streams differ only in their invisible groups, and that each of these groups
+/// contains a visible token. Then either both results are the same list, including its spans, or
+/// both are errors with the same text.
+///
+/// Returns an error if an allocation fails.
 pub fn arguments_both(
     alloc: Global,
     left: TokenStream,

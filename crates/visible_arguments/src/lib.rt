@@ -1,4 +1,5 @@
-//! Reads arguments of what is visible of a stream, whatever invisible groups it has.
+//! Functions that parse arguments from the visible tokens of a stream, regardless of its invisible
+//! groups.
 #![tactic(auto)]
 
 mod read;

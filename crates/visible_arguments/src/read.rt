@@ -1,4 +1,4 @@
-//! Arguments, read of the visible tokens.
+//! Functions that parse arguments from visible tokens.
 ghost use Rattle.std.specs.Prelude.{◌≡◌, IfOk};
 ghost use Rattle.arguments.specs.Results.{Agree, Parses, ParsesTo, SaysWhy};
 ghost use Rattle.tok_core.specs.Erase.{erase};
@@ -11,9 +11,9 @@ use tok_buffer::Error;
 use tok_core::TokenStream;
 use tok_pruned::prune;
 
-/// Parses all visible tokens as arguments, whatever invisible groups there are.
+/// Parses all visible tokens of a stream as arguments, regardless of its invisible groups.
 ///
-/// If they are no arguments, returns the error of the first parser that fails.
+/// If the tokens are not arguments, returns the error of the first parser that fails.
 ///
 /// # Examples
 ///
@@ -30,10 +30,12 @@ pub fn visible_arguments(alloc: Global, tokens: TokenStream) -> Result<Arguments
     parse_arguments(alloc, filled)
 }
 
-/// Parses the visible tokens of two streams as arguments.
+/// Parses the visible tokens of two streams, `left` and `right`, as arguments.
 ///
-/// If they are equal, spans included, the lists are the same, spans included, or the errors have
-/// the same texts. A failed allocation takes the place of both results.
+/// If both streams have equal visible tokens, including their spans, then either both results are
+/// the same list, including its spans, or both are errors with the same text.
+///
+/// Returns an error if an allocation fails.
 ///
 /// # Examples
 ///
