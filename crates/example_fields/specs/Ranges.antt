@@ -5,7 +5,7 @@ use Rattle.tok_leaves.specs.declared.span.Span.{Span}
 use Rattle.tok_core.specs.Forest.{Forest}
 use Rattle.tok_entries.specs.Entries.{end_byte, first_byte}
 use Rattle.tok_types.specs.Printed.{first_span}
-use Rattle.tok_types.specs.declared.punctuation.Punctuation.{Punctuation}
+use Rattle.syn_parse.specs.TokenNames.{PathSep, Token}
 use Rattle.syn_derive.specs.Metas.{MetaInput, assigned, delimited, no_input}
 use Rattle.syn_derive.specs.Paths.{PathForm}
 use Rattle.syn_derive.specs.Visibilities.{VisibilityForm, inherited, public, restricted}
@@ -40,7 +40,7 @@ of_name None = no_range
 of_name (Some i) = of_ident i
 
 -- the spans of the `::` before a path, if there is one
-abbrev pub leading_ends : Option (Punctuation 28 2) → Ends
+abbrev pub leading_ends : Option (Token PathSep) → Ends
 leading_ends None = None
 leading_ends (Some colon) = Some (first_span colon.spans, first_span colon.spans)
 

@@ -2,8 +2,8 @@
 use Rattle.std.specs.Prelude.{ℕ, List, [], ◌∷◌, ◌++◌, length, map, Option, None, Some, option_map}
 use Rattle.tok_core.specs.Erase.{erase}
 use Rattle.tok_core.specs.Forest.{Forest}
-use Rattle.tok_types.specs.declared.punctuation.Punctuation.{Punctuation}
 use Rattle.entry_outcomes.specs.Answers.{Given}
+use Rattle.syn_parse.specs.TokenNames.{Eq, Token}
 use Rattle.syn_derive.specs.Attributes.{AttributeForm}
 use Rattle.syn_derive.specs.Fields.{FieldForm, FieldsForm, VariantForm, named, unit, unnamed}
 use Rattle.syn_derive.specs.Generics.{WhereForm}
@@ -68,11 +68,11 @@ fields_number (unnamed fields) = 1
 fields_number (named fields) = 2
 
 -- a discriminant, without invisible groups
-abbrev pub discriminant_form : Option (Punctuation 13 1 × Expr) → Option (Punctuation 13 1 × Forest)
+abbrev pub discriminant_form : Option (Token Eq × Expr) → Option (Token Eq × Forest)
 discriminant_form d = option_map (λ d. (d.0, erase d.1.tokens)) d
 
 -- the range of a discriminant's tokens; the empty range if there is none
-abbrev pub discriminant : Option (Punctuation 13 1 × Forest) → Range
+abbrev pub discriminant : Option (Token Eq × Forest) → Range
 discriminant None = no_range
 discriminant (Some d) = of_tokens d.1
 

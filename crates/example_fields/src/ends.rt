@@ -1,4 +1,4 @@
-//! The first and the last visible token of a stream.
+//! Functions that find the first and the last visible token of a stream.
 ghost use Rattle.std.specs.Prelude.{◌≡◌};
 ghost use Rattle.tok_core.specs.Erase.{erase};
 ghost use Rattle.tok_core.specs.Forest.{no_trees, tree};

@@ -1,7 +1,8 @@
-//! Laws of tables. Each is the contract of a function that does nothing.
+//! Laws about tables. Each law is the contract of a function that does nothing.
 ghost use Rattle.example_fields.specs.Inputs.{TablesAgree};
 
-/// The same visible tokens have one table, in whatever invisible groups they are.
+/// If two streams have the same visible tokens, then the tables of the two streams are equal,
+/// regardless of invisible groups.
 pub fn tables_agree()
     ensures { TablesAgree }
 {}

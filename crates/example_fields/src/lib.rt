@@ -1,7 +1,7 @@
-//! Structs, enums and unions as a table of their fields: what a derive in Rust takes of its input.
+//! A table of the fields of structs, enums and unions, for a derive macro in Rust.
 //!
-//! `tools/macro --derive` copies this crate under another name. A derive that needs more of its
-//! input adds a column to `Row`, or a kind of row.
+//! `tools/macro --derive` copies this crate under another name. If your derive macro needs more
+//! information, add a column to `Row` or a new kind of row.
 #![tactic(auto)]
 
 mod ends;

@@ -1,4 +1,4 @@
-//! Ranges of tokens.
+//! Types for ranges of tokens.
 ghost use Rattle.std.specs.Prelude.{◌≡◌};
 ghost use Rattle.tok_core.specs.Erase.{erase};
 ghost use Rattle.syn_derive.specs.Paths.{path_form};
@@ -10,8 +10,9 @@ use entry_outcomes::range;
 use syn_derive::{Path, Visibility};
 use tok_core::{Ident, Span, TokenStream};
 
-/// A range of tokens: the number of the first one, and that after the last. Both are 0 if there is
-/// none.
+/// A range of tokens, given by the number of the first token and the number after the last token.
+///
+/// Both numbers are 0 if the range is empty.
 #[repr(C)]
 #[derive(Clone, Copy)]
 pub struct Range {

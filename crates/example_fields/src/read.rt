@@ -1,4 +1,4 @@
-//! Entries read as the input of a derive.
+//! A function that parses entries as the input of a derive macro.
 ghost use Rattle.syn_parse.specs.Takings.{Keeps};
 ghost use Rattle.example_fields.specs.Inputs.{AnswersInput, IsTabulated, ParsesInput, input as read_as};
 
@@ -10,12 +10,14 @@ use syn_parse::ParseStream;
 use tok_entries::Entry;
 use tok_pruned::laws::pruning_fills;
 
-/// Parses entries as the input of a derive, whatever invisible groups they have, and writes its
-/// table over the front of `values`. If the tokens are rejected, all messages of the error are
-/// written over the front of `messages`, and their texts over that of `bytes`.
+/// Parses `entries` as the input of a derive macro, regardless of invisible groups.
 ///
-/// If there is not enough room, nothing is written: `outcome` then says how much it takes, and the
-/// call can be made again.
+/// The call writes the table of this input to the start of `values`. If the tokens are rejected,
+/// the call writes all messages of the error to the start of `messages`, and their texts to the
+/// start of `bytes`.
+///
+/// If one of these slices is too short, the call writes to none of them. `outcome` then contains
+/// the required lengths, and the caller can repeat the call with longer slices.
 #[unsafe(no_mangle)]
 pub extern "C" fn example_fields_parse(
     alloc: Global,

@@ -1,4 +1,4 @@
-//! The table: rows of an item, its variants and fields, and their attributes.
+//! A table with rows for an item, its variants and fields, and their attributes.
 ghost use Rattle.std.specs.Prelude.{◌≡◌, ◌++◌, IfOk, OnOk, map, option_map};
 ghost use Rattle.entry_outcomes.specs.Answers.{answered};
 ghost use Rattle.syn_derive.specs.Attributes.{attribute_form};
@@ -31,26 +31,29 @@ const FIELD: usize = 5;
 
 const ATTRIBUTE: usize = 6;
 
-/// A row of the table. The first is the item's. After the row of an item, a variant or a field come
-/// those of its attributes, and then those of what it consists of.
+/// A row of the table, which describes a part of the item.
+///
+/// The first row describes the item. After the row of an item, a variant or a field come the rows
+/// of its attributes, and then the rows of its parts.
 #[repr(C)]
 #[derive(Clone, Copy)]
 pub struct Row {
-    /// 0 for a struct, 1 for an enum, 2 for a union, 3 for a `where` clause, 4 for a variant, 5 for
-    /// a field, 6 for an attribute.
+    /// The kind of the row: 0 for a struct, 1 for an enum, 2 for a union, or 3 for a `where`
+    /// clause. The kind is 4 for a variant, 5 for a field, or 6 for an attribute.
     pub kind: usize,
-    /// Of a struct, a union or a variant: 0 without fields, 1 with fields in parentheses, 2 with
-    /// fields in braces. Of an attribute: 0 for a path alone, 1 for tokens in delimiters, 2 for a
-    /// value after `=`. 0 for the others.
+    /// The form of the part that this row describes. For a struct, a union or a variant, the form
+    /// is 0 without fields, 1 with fields in parentheses, or 2 with fields in braces. For an
+    /// attribute, the form is 0 for a path alone, 1 for tokens in delimiters, or 2 for a value
+    /// after `=`. For any other row, the form is 0.
     pub form: usize,
-    /// How many attributes it has: their rows are the next ones.
+    /// The number of attributes that the part has. Their rows follow this row.
     pub attributes: usize,
-    /// The name; of an attribute the path.
+    /// The tokens of the name, or of the path of an attribute.
     pub name: Range,
-    /// The visibility.
+    /// The tokens of the visibility.
     pub visibility: Range,
     /// The type of a field, the discriminant of a variant, the parameters of an item, the
-    /// predicates of a `where` clause; of an attribute the tokens in its delimiters, or its value.
+    /// predicates of a `where` clause, or the tokens or the value of an attribute.
     pub value: Range,
 }
 
@@ -246,7 +249,7 @@ fn push_item(rows: &mut Vec<Row>, input: &DeriveInput) -> Result<(), AllocError>
     push_data(rows, &input.data)
 }
 
-/// Returns the answer of an item: its table.
+/// Returns an answer that contains the table of a struct, an enum or a union.
 ///
 /// Returns an error if an allocation fails.
 pub fn tabulate(alloc: Global, input: &DeriveInput) -> Result<Answer<Row>, AllocError>

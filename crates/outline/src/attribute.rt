@@ -1,4 +1,4 @@
-//! The path of an attribute and its arguments.
+//! The path and the arguments of an attribute.
 ghost use Rattle.std.specs.Prelude.{◌<◌, IfSome};
 ghost use Rattle.tok_buffer.specs.Cursors.{place_of};
 ghost use Rattle.tok_buffer.specs.Progress.{remaining};
@@ -9,7 +9,7 @@ use tok_buffer::Cursor;
 use tok_buffer::laws::reads_go_on;
 use tok_core::{Delimiter, Span};
 
-/// An attribute's path, delimiter and arguments, as they are printed.
+/// The path, the delimiter and the arguments of an attribute, as they are printed.
 #[derive(Drop)]
 pub struct Attribute {
     pub path: String,
@@ -17,12 +17,12 @@ pub struct Attribute {
     pub arguments: String,
 }
 
-/// Why the contents of brackets are no attribute.
+/// The reason why the contents of brackets are not an attribute.
 #[derive(Drop)]
 pub enum Fault {
-    /// A token is at the span, and these words say what is expected there.
+    /// The token at this span is unexpected. The text says what is expected instead.
     Expected(Span, &'static str),
-    /// A macro inserts something here.
+    /// A macro inserts tokens at this place.
     Placeholder,
     Memory,
 }
@@ -33,7 +33,7 @@ impl From<AllocError> for Fault {
     }
 }
 
-/// Reads the attribute in brackets with these contents.
+/// Reads an attribute from the contents of its brackets.
 pub fn read<'a>(alloc: Global, contents: Cursor<'a>) -> Result<Attribute, Fault> {
     let (path, rest) = read_path(alloc, contents)?;
     if rest.eof() {

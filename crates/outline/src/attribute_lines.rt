@@ -1,4 +1,4 @@
-//! The lines of attributes.
+//! A function that lists the attributes of a file.
 ghost use Rattle.std.specs.Prelude.{◌≡◌, ◌≢◌, ◌++◌, [], IfOk, codes, decimal, string_bytes};
 
 use crate::attribute::{Fault, read};
@@ -8,7 +8,7 @@ use crate::source::{File, Listing, shown, start};
 use std::alloc::{AllocError, Global};
 use tok_buffer::Cursor;
 
-/// Lists the attributes ahead of a cursor in a file.
+/// Returns the listing of the attributes of `file` that begin at or after `cursor`.
 pub fn list_attributes<'a>(
     alloc: Global,
     file: File<'_>,

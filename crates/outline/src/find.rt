@@ -1,4 +1,4 @@
-//! The attributes among the tokens of a buffer.
+//! Functions that find the attributes among the tokens of a buffer.
 ghost use Rattle.std.specs.Prelude.{IfSome};
 ghost use Rattle.tok_buffer.specs.Cursors.{place_of};
 ghost use Rattle.outline.specs.Passing.{Passes};
@@ -8,7 +8,8 @@ use tok_buffer::Cursor;
 use tok_buffer::laws::{entries_go_on, reads_go_on, skips_go_on, stays_along};
 use tok_core::{Delimiter, Span};
 
-/// Whether an attribute belongs to the item after it, or to the item it is in.
+/// The style of an attribute. An outer attribute belongs to the item after it, and an inner
+/// attribute belongs to the item that contains it.
 #[derive(Clone, Copy)]
 pub enum Style {
     Outer,
@@ -16,7 +17,7 @@ pub enum Style {
 }
 
 impl Style {
-    /// Returns `true` for an attribute of the item after it.
+    /// Returns `true` if the style is `Outer`.
     pub fn is_outer(self) -> bool {
         match self {
             Style::Outer => true,
@@ -25,7 +26,7 @@ impl Style {
     }
 }
 
-/// An attribute: where it begins, and the contents of its brackets.
+/// The style and the start of an attribute, and the contents of its brackets.
 #[derive(Clone, Copy)]
 pub struct Found<'a> {
     pub style: Style,
@@ -33,7 +34,7 @@ pub struct Found<'a> {
     pub contents: Cursor<'a>,
 }
 
-/// Appends the attributes ahead of a cursor in order, those in groups too.
+/// Appends the attributes from `cursor` on to `found`, in order, including attributes in groups.
 #[cycle(find)]
 pub fn find<'a>(found: &mut Vec<Found<'a>>, cursor: Cursor<'a>) -> Result<(), AllocError> {
     skips_go_on();
@@ -54,8 +55,9 @@ pub fn find<'a>(found: &mut Vec<Found<'a>>, cursor: Cursor<'a>) -> Result<(), Al
     }
 }
 
-/// Returns the attribute at a cursor, and the cursor after it. In a macro, `#[$name]` and `#[#name]`
-/// are no attributes yet.
+/// Returns the attribute at `cursor`, and the cursor after the attribute.
+///
+/// In a macro, `#[$name]` and `#[#name]` are not attributes.
 pub fn attribute<'a>(cursor: Cursor<'a>) -> Option<(Found<'a>, Cursor<'a>)>
     ensures { IfSome result
         (λ r. Passes (place_of cursor.entry) (place_of r.1)) }

@@ -1,4 +1,4 @@
-//! The lines of structs, enums and unions.
+//! A function that lists the structs, enums and unions of a file.
 use crate::items::{Found, find_items};
 use crate::position::{Place, Position};
 use crate::show::{push_path, push_tokens};
@@ -14,7 +14,8 @@ use tok_buffer::{Cursor, Error, TokenBuffer};
 use tok_core::{Span, ToTokens, TokenStream};
 use tok_types::token;
 
-/// Lists the structs, enums and unions of a buffer, which has the tokens of a file.
+/// Returns the listing of the structs, enums and unions in `buffer`, which contains the tokens of
+/// `file`.
 pub fn list_items(
     alloc: Global,
     file: File<'_>,

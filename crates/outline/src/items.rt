@@ -1,4 +1,4 @@
-//! The structs, enums and unions of a source.
+//! A function that finds the structs, enums and unions of a source.
 ghost use Rattle.std.specs.Prelude.{◌≡◌, ◌<◌, ◌≤◌, IfOk};
 ghost use Rattle.tok_buffer.specs.Cursors.{place_of};
 ghost use Rattle.tok_buffer.specs.Place.{empty_place};
@@ -14,17 +14,18 @@ use tok_buffer::laws::entries_go_on;
 use tok_buffer::{Cursor, Error};
 use tok_core::Span;
 
-/// What begins as an item: the span where it begins, and the item, or why it is none.
+/// The span at which an item begins, and the item or the error of its parser.
 #[derive(Drop)]
 pub struct Found {
     pub span: Span,
     pub item: std::result::Result<DeriveInput, Error>,
 }
 
-/// Appends the items ahead of a stream in order, those in groups too.
+/// Appends the remaining items of `input` to `found`, in order, including items in groups.
 ///
-/// No token is read twice as part of an item of its scope, whether the item is right or wrong: an
-/// item begins after the one before it, or in a group.
+/// The next item of a scope begins after the tokens that the parser read for the previous item,
+/// whether that item is valid or not. Therefore, the parser reads no token twice as part of an item
+/// of the same scope.
 #[cycle(find_items)]
 pub fn find_items(found: &mut Vec<Found>, input: ParseStream<'_, '_>) -> Result<()> {
     // How much remains after the last item.

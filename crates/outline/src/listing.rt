@@ -1,4 +1,4 @@
-//! The lines that are printed of a file.
+//! A function that lists the items or the attributes of a file.
 use crate::attribute_lines::list_attributes;
 use crate::item_lines::list_items;
 use crate::position::Place;
@@ -8,16 +8,18 @@ use std::str::from_utf8;
 use tok_buffer::TokenBuffer;
 use tok_core::{Edition, LexError, LexFault, Span};
 
-/// What is listed of a file.
+/// The kind of a listing: the items or the attributes of a file.
 #[derive(Clone, Copy)]
 pub enum Mode {
-    /// Its structs, enums and unions.
+    /// The structs, enums and unions of the file.
     Items,
-    /// Its attributes.
+    /// The attributes of the file.
     Attributes,
 }
 
-/// Lists a file with this name and contents.
+/// Returns the listing of the items or the attributes of a file with this name and contents.
+///
+/// Returns an error if an allocation fails.
 pub fn list<'a>(
     alloc: Global,
     mode: Mode,

@@ -1,4 +1,4 @@
-//! The command line.
+//! The command line of the program.
 use crate::listing::Mode;
 use crate::source::ErrorStyle;
 use clap::{Arg, ArgAction, ArgMatches, Command, Error};
@@ -20,7 +20,7 @@ attribute `doc`.
 
 The exit status is 0 if something is found, 1 if nothing is, and 2 if a file is in error.";
 
-/// Returns the command line that the program takes.
+/// Returns the definition of the program's command line.
 pub fn command<'a>(alloc: Global) -> Result<Command<'a>, Error> {
     let file = Arg::new(alloc, "FILE")
         .help("A Rust source file")
@@ -51,7 +51,7 @@ pub fn command<'a>(alloc: Global) -> Result<Command<'a>, Error> {
     Ok(command)
 }
 
-/// Returns what is listed of the files.
+/// Returns the mode that the command line selects.
 pub fn mode(matches: &ArgMatches<'_>) -> Mode {
     if matches.get_flag("attributes") {
         Mode::Attributes
@@ -60,7 +60,7 @@ pub fn mode(matches: &ArgMatches<'_>) -> Mode {
     }
 }
 
-/// Returns the edition of the files.
+/// Returns the edition that the command line selects.
 pub fn edition(matches: &ArgMatches<'_>) -> Edition {
     match matches.get_str("edition") {
         Some("2015") => Edition::Edition2015,
@@ -70,7 +70,7 @@ pub fn edition(matches: &ArgMatches<'_>) -> Edition {
     }
 }
 
-/// Returns how errors are shown.
+/// Returns the error style that the command line selects.
 pub fn error_style(matches: &ArgMatches<'_>) -> ErrorStyle {
     if matches.get_flag("carets") {
         ErrorStyle::Carets

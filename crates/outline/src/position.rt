@@ -1,11 +1,11 @@
-//! Lines and columns.
+//! Types for lines and columns, and for places in a text.
 ghost use Rattle.std.specs.Prelude.{◌≡◌, ◌≤◌, ◌⊎◌, []};
 ghost use Rattle.std.specs.Str.{chars};
 ghost use Rattle.outline.specs.Positions.{GoesOn, step};
 
 use tok_lexical::text::next_char;
 
-/// A line and a column, both counted in characters from 1.
+/// A line and a column. Both are counted from 1, and a column is a number of characters.
 #[derive(Clone, Copy)]
 pub struct Position {
     pub line: usize,
@@ -15,7 +15,7 @@ pub struct Position {
 // The position of the first character of a text.
 const START: Position = Position { line: 1, column: 1 };
 
-/// A place in a text: the rest of the text, the byte, and the line and column.
+/// A place in a text, with the rest of the text, the byte offset, and the line and column.
 #[derive(Clone, Copy)]
 pub struct Place<'a> {
     rest: &'a str,
@@ -24,7 +24,9 @@ pub struct Place<'a> {
 }
 
 impl<'a> Place<'a> {
-    /// Returns the place of the first character. A byte order mark at the start takes no column.
+    /// Returns the place of the first character of `text`.
+    ///
+    /// A byte order mark at the start of `text` does not count as a column.
     pub fn new(text: &'a str) -> Place<'a> {
         let rest = match next_char(text) {
             Some(('\u{FEFF}', after)) => after,
@@ -37,7 +39,8 @@ impl<'a> Place<'a> {
         }
     }
 
-    /// Returns the first place from here on whose byte is at least `at`, or the end of the text.
+    /// Returns the first place at or after `self` whose byte offset is at least `at`, or the end of
+    /// the text.
     #[tactic(auto, using(crate::proofs::Moves::starts))]
     pub fn moved_to(self, at: usize) -> Place<'a>
         ensures goes_on { GoesOn self.entry.position self.entry.rest.now

@@ -1,4 +1,4 @@
-//! Where items begin among the tokens of a source.
+//! Finds the places where items begin among the tokens of a source.
 ghost use Rattle.std.specs.Prelude.{IfSome};
 ghost use Rattle.tok_buffer.specs.Cursors.{place_of};
 ghost use Rattle.outline.specs.Passing.{Passes, Stays};
@@ -10,17 +10,17 @@ use tok_core::{Delimiter, Ident};
 use tok_types::token::Token;
 use tok_types::{accept_as_ident, token};
 
-/// Where a scan stops: at an item, at a group, or at the end of the scope.
+/// The place where a scan stops, which is an item, a group or the end of the scope.
 #[derive(Clone, Copy)]
 pub struct Stop<'a> {
     pub at: Cursor<'a>,
     pub is_item: bool,
 }
 
-/// Passes tokens, attributes and macros up to an item, a group or the end of the scope.
+/// Skips tokens, attributes and macros up to an item, a group or the end of the scope.
 ///
-/// An item begins only where no more than `most` remains. It begins with its attributes, or after
-/// them if they are before that.
+/// An item begins only at a place where at most `most` buffer entries remain. If more entries
+/// remain before the attributes of an item, then the item begins after its attributes.
 pub fn scan<'a>(cursor: Cursor<'a>, most: usize) -> Stop<'a>
     ensures { Stays (place_of cursor.entry) (place_of result.at) }
 {

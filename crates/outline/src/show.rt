@@ -1,4 +1,4 @@
-//! Arguments and tokens as one line of text.
+//! Functions that write arguments and tokens on one line.
 use arguments::{Arguments, Value, parse_arguments};
 use std::alloc::{AllocError, Global};
 use syn_derive::Path;
@@ -31,13 +31,13 @@ pub fn show_tokens<'a>(alloc: Global, cursor: Cursor<'a>) -> Result<String, Allo
     Ok(text)
 }
 
-/// Appends tokens as they are printed, in one line.
+/// Appends the text of `tokens` to `text`, on one line.
 pub fn push_tokens(text: &mut String, tokens: &TokenStream) -> Result<(), AllocError> {
     let printed = tokens.to_string(tokens.allocator())?;
     push_line(text, printed.as_str())
 }
 
-/// Appends a path, without spaces.
+/// Appends `path` to `text`, without spaces.
 pub fn push_path(text: &mut String, path: &Path) -> Result<(), AllocError> {
     let mut before = match path.leading_colon {
         Some(_) => "::",

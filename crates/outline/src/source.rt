@@ -1,4 +1,4 @@
-//! A source, errors in it, and what is listed of it.
+//! A source file, the errors in the file, and the lines that are listed for the file.
 ghost use Rattle.std.specs.Prelude.{◌≡◌, ◌++◌, IfOk, codes, decimal, string_bytes};
 
 use crate::position::Position;
@@ -6,29 +6,29 @@ use std::alloc::{AllocError, Global};
 use tok_carets::Source;
 use tok_core::Span;
 
-/// The number that spans have for the file.
+/// The source number in the spans of the file's tokens.
 pub const SOURCE: u32 = 0;
 
-/// How an error is shown.
+/// The style in which an error is shown.
 #[derive(Clone, Copy)]
 pub enum ErrorStyle {
-    /// One line, with the file, the line and the column.
+    /// One line with the file name, the line and the column.
     Line,
-    /// Its text, and the line of the file with carets under it.
+    /// The text of the error, and the line of the file with carets under the span.
     Carets,
 }
 
-/// A file's text, and how errors in it are shown.
+/// The name and the text of a file, and the style in which errors in the file are shown.
 #[derive(Clone, Copy)]
 pub struct File<'a> {
     pub name: &'a str,
     pub text: &'a str,
     pub style: ErrorStyle,
-    /// What is before the words of an error in one line.
+    /// The text that comes before the message of an error, if the error is shown on one line.
     pub level: &'static str,
 }
 
-/// The lines of a file, and of its errors.
+/// The lines that are listed for a file, and the lines for errors in the file.
 #[derive(Drop)]
 pub struct Listing {
     pub lines: String,
@@ -36,7 +36,7 @@ pub struct Listing {
     pub is_found: bool,
 }
 
-/// Returns an error at a span, which begins at this position.
+/// Returns the text of an error at `span`, which begins at `position`.
 pub fn shown(
     alloc: Global,
     file: File<'_>,
@@ -80,7 +80,7 @@ fn error_of(
     format!(in alloc; "{file}:{line}:{column}: {level}{words}\n")
 }
 
-/// Returns the byte at which a span begins.
+/// Returns the offset of the byte at which `span` begins, or 0 if `span` is the call site.
 pub fn start(span: Span) -> usize {
     match span.as_range() {
         Some((_, start, _)) => start,

@@ -3,5 +3,6 @@ pub mod Runs
 pub mod Paths
 pub mod Visibilities
 pub mod Attributes
+pub mod NestedMetas
 pub mod Fields
 pub mod Items

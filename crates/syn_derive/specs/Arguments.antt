@@ -7,11 +7,10 @@ use Rattle.tok_leaves.specs.declared.span.Span.{Span}
 use Rattle.tok_buffer.specs.Messages.{message, message_at}
 use Rattle.tok_buffer.specs.Spans.{spanned}
 use Rattle.tok_buffer.specs.declared.error.Message.{Message}
-use Rattle.tok_types.specs.declared.punctuation.Punctuation.{Punctuation}
 use Rattle.syn_parse.specs.Faults.{FailsWith, Refuses}
 use Rattle.syn_parse.specs.declared.fault.Fault.{Fault}
 use Rattle.syn_parse.specs.Takings.{Takings, taken_filled}
-use Rattle.syn_parse.specs.TokenNames.{take_comma}
+use Rattle.syn_parse.specs.TokenNames.{Comma, Token, take}
 use Rattle.syn_parse.specs.Takes.{Taking}
 use Rattle.syn_punctuated.specs.Lists.{values_of}
 use Rattle.syn_punctuated.specs.TakeLists.{list_form, take_terminated}
@@ -42,11 +41,11 @@ abbrev pub opening_of : MetaList → Span
 opening_of l = opening_span (whole_span (delimiter_span l.delimiter))
 
 -- metas of any path and the commas between them
-unfoldable pub take_nested_list : Taking (List MetaForm × List (Punctuation 7 1))
-take_nested_list = take_terminated take_nested_meta take_comma
+unfoldable pub take_nested_list : Taking (List MetaForm × List (Token Comma))
+take_nested_list = take_terminated take_nested_meta (take Comma)
 
 -- the parse of metas and their commas, if no invisible group is empty
-abbrev pub nested_list : Takings (Punctuated Meta (Punctuation 7 1))
+abbrev pub nested_list : Takings (Punctuated Meta (Token Comma))
 nested_list = taken_filled (list_form meta_form (λ p. p)) take_nested_list
 
 -- a segment, and `::` before it if it comes after one

@@ -6,20 +6,21 @@ use Rattle.tok_leaves.specs.declared.ident.Ident.{Ident}
 use Rattle.tok_leaves.specs.declared.span.DelimSpan.{DelimSpan}
 use Rattle.tok_core.specs.Erase.{erase}
 use Rattle.tok_core.specs.Forest.{Forest}
-use Rattle.tok_types.specs.declared.punctuation.Punctuation.{Punctuation}
 use Rattle.syn_parse.specs.After.{take_after}
 use Rattle.syn_parse.specs.Lighter.{lightens_lower}
 use Rattle.syn_parse.specs.Takes.{Taking, ◌>>=◌, gives, take_group, where_ahead}
 use Rattle.syn_parse.specs.Takings.{Lightens, Lowers, Takings, lighter, taken_filled, told_filled}
-use Rattle.syn_parse.specs.TokenNames.{sees_eq, take_colon, take_comma, take_eq}
+use Rattle.syn_parse.specs.TokenNames.{Colon, Comma, Eq, Token, sees, take}
 use Rattle.syn_parse.specs.Tokens.{sees_group, take_ident}
 use Rattle.syn_punctuated.specs.Lists.{values_of}
 use Rattle.syn_punctuated.specs.TakeLists.{list_form, take_terminated}
 use Rattle.syn_punctuated.specs.Weighing.{weighing_lists}
 use Rattle.syn_punctuated.specs.declared.punctuated.Punctuated.{Punctuated}
-use Rattle.syn_derive.specs.Attributes.{AttributeForm, attributes_form, lowers_attribute, take_attributes}
+use Rattle.syn_derive.specs.Attributes.{AttributeForm, attributes_form, lowers_attribute}
+use Rattle.syn_derive.specs.Attributes.{take_attributes}
 use Rattle.syn_derive.specs.Runs.{lightens_expr, lightens_type, take_expr, take_type}
-use Rattle.syn_derive.specs.Visibilities.{VisibilityForm, lightens_visibility, take_visibility, visibility_form}
+use Rattle.syn_derive.specs.Visibilities.{VisibilityForm, lightens_visibility, take_visibility}
+use Rattle.syn_derive.specs.Visibilities.{visibility_form}
 use Rattle.syn_derive.specs.declared.data.Field.{Field}
 use Rattle.syn_derive.specs.declared.data.Fields.{Fields}
 use Rattle.syn_derive.specs.declared.data.Fields.TheVariants as fields
@@ -30,7 +31,7 @@ use Rattle.syn_derive.specs.declared.data.Variant.{Variant}
 -- a field, with or without a name
 abbrev pub FieldForm : Type 0
 FieldForm =
-    List AttributeForm × VisibilityForm × Option Ident × Option (Punctuation 6 1) × Forest
+    List AttributeForm × VisibilityForm × Option Ident × Option (Token Colon) × Forest
 
 -- a field as contracts see it, its type without invisible groups
 abbrev pub field_form : Field → FieldForm
@@ -49,7 +50,7 @@ take_named_field = do
   attrs ← take_attributes
   vis ← take_visibility
   ident ← take_ident
-  colon ← take_colon
+  colon ← take Colon
   ty ← take_type
   gives (attrs, vis, Some ident, Some colon, ty)
 
@@ -61,6 +62,7 @@ take_unnamed_field = do
   ty ← take_type
   gives (attrs, vis, None, None, ty)
 
+-- with these, `search` proves that the parse of a part takes something, or adds nothing
 pub ruleset weighing_parts =
     (weighing_lists, lowers_attribute, lightens_visibility, lightens_type, lightens_expr)
 
@@ -84,26 +86,26 @@ unnamed_field = told_filled field_form take_unnamed_field (lighter lightens_unna
 
 -- fields and the commas between them
 abbrev pub FieldList : Type 0
-FieldList = List FieldForm × List (Punctuation 7 1)
+FieldList = List FieldForm × List (Token Comma)
 
 -- a list of fields as contracts see it
-abbrev pub list_of : Punctuated Field (Punctuation 7 1) → FieldList
+abbrev pub list_of : Punctuated Field (Token Comma) → FieldList
 list_of fields = list_form field_form (λ p. p) fields
 
 -- fields with names, and the commas between them
 unfoldable pub take_named : Taking FieldList
-take_named = take_terminated take_named_field take_comma
+take_named = take_terminated take_named_field (take Comma)
 
 -- fields without names, and the commas between them
 unfoldable pub take_unnamed : Taking FieldList
-take_unnamed = take_terminated take_unnamed_field take_comma
+take_unnamed = take_terminated take_unnamed_field (take Comma)
 
 -- the parse of a list of fields with names, if no invisible group is empty
-abbrev pub named_list : Takings (Punctuated Field (Punctuation 7 1))
+abbrev pub named_list : Takings (Punctuated Field (Token Comma))
 named_list = taken_filled list_of take_named
 
 -- the parse of a list of fields without names, if no invisible group is empty
-abbrev pub unnamed_list : Takings (Punctuated Field (Punctuation 7 1))
+abbrev pub unnamed_list : Takings (Punctuated Field (Token Comma))
 unnamed_list = taken_filled list_of take_unnamed
 
 -- fields in braces as contracts see them
@@ -173,7 +175,7 @@ lightens_fields = search (weighing_lists, lightens_named, lightens_unnamed) dept
 -- a variant: its name, its fields, and an expression after `=`
 abbrev pub VariantForm : Type 0
 VariantForm =
-    List AttributeForm × Ident × FieldsForm × Option (Punctuation 13 1 × Forest)
+    List AttributeForm × Ident × FieldsForm × Option (Token Eq × Forest)
 
 -- a variant as contracts see it
 abbrev pub variant_form : Variant → VariantForm
@@ -191,7 +193,7 @@ take_variant = do
   _ ← take_visibility
   ident ← take_ident
   fields ← take_fields
-  discriminant ← take_after sees_eq take_eq take_expr
+  discriminant ← take_after (sees Eq) (take Eq) take_expr
   gives (attrs, ident, fields, discriminant)
 
 -- a variant adds nothing to what is ahead

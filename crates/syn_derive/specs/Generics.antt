@@ -3,12 +3,10 @@
 use Rattle.std.specs.Prelude.{◌≡◌, Option, None, Some, Ok, Err}
 use Rattle.tok_core.specs.Erase.{erase}
 use Rattle.tok_core.specs.Forest.{Forest, no_trees}
-use Rattle.tok_types.specs.declared.keyword.Keyword.{Keyword}
-use Rattle.tok_types.specs.declared.punctuation.Punctuation.{Punctuation}
 use Rattle.syn_parse.specs.Reads.{Call}
 use Rattle.syn_parse.specs.Takes.{Taking, ◌>>=◌, gives, where_ahead}
 use Rattle.syn_parse.specs.Takings.{Lightens, Lowers}
-use Rattle.syn_parse.specs.TokenNames.{sees_lt, take_gt, take_lt, take_where}
+use Rattle.syn_parse.specs.TokenNames.{Gt, Lt, Token, Where, sees, take}
 use Rattle.syn_parse.specs.Weighing.{weighing}
 use Rattle.syn_derive.specs.Runs.{lightens_until, take_until}
 use Rattle.syn_derive.specs.declared.generics.Generics.{Generics}
@@ -17,7 +15,7 @@ use Rattle.syn_derive.specs.declared.run.Until.TheVariants.{Params, Predicates}
 
 -- parameters between `<` and `>`, or none
 abbrev pub ParamsForm : Type 0
-ParamsForm = Option (Punctuation 20 1) × Forest × Option (Punctuation 17 1)
+ParamsForm = Option (Token Lt) × Forest × Option (Token Gt)
 
 -- parameters as contracts see them
 abbrev pub params_form : Generics → ParamsForm
@@ -31,10 +29,10 @@ HaveNoClause s (Err f) t = Unit {0}
 -- takes parameters between `<` and `>`, or nothing
 unfoldable pub take_params : Taking ParamsForm
 take_params =
-    where_ahead sees_lt (do
-      lt ← take_lt
+    where_ahead (sees Lt) (do
+      lt ← take Lt
       params ← take_until Params
-      gt ← take_gt
+      gt ← take Gt
       gives (Some lt, params, Some gt)) (gives (None, no_trees, None))
 
 -- parameters add nothing to what is ahead
@@ -44,7 +42,7 @@ lightens_generics = search (weighing, lightens_until) depth 40
 
 -- `where` and predicates
 abbrev pub WhereForm : Type 0
-WhereForm = Keyword 51 × Forest
+WhereForm = Token Where × Forest
 
 -- a `where` clause as contracts see it
 abbrev pub where_form : WhereClause → WhereForm
@@ -53,7 +51,7 @@ where_form w = (w.where_token, erase w.predicates)
 -- takes a `where` clause
 unfoldable pub take_where_clause : Taking WhereForm
 take_where_clause = do
-  word ← take_where
+  word ← take Where
   predicates ← take_until Predicates
   gives (word, predicates)
 

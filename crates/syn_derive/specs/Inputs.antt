@@ -4,12 +4,9 @@ use Rattle.std.specs.Prelude.{List, Option, None, Some, option_map, codes}
 use Rattle.tok_lexical.specs.declared.delimiter.Delimiter.TheVariants.{Brace, Parenthesis}
 use Rattle.tok_leaves.specs.declared.ident.Ident.{Ident}
 use Rattle.tok_leaves.specs.declared.span.DelimSpan.{DelimSpan}
-use Rattle.tok_types.specs.declared.keyword.Keyword.{Keyword}
-use Rattle.tok_types.specs.declared.punctuation.Punctuation.{Punctuation}
 use Rattle.syn_parse.specs.Optional.{take_optional}
 use Rattle.syn_parse.specs.Takes.{Taking, ◌>>=◌, gives, refuses, take_group, where_ahead}
-use Rattle.syn_parse.specs.TokenNames.{sees_enum, sees_struct, sees_union, sees_where, take_comma}
-use Rattle.syn_parse.specs.TokenNames.{take_enum, take_semi, take_struct, take_union}
+use Rattle.syn_parse.specs.TokenNames.{Comma, Enum, Semi, Struct, Token, Union, Where, sees, take}
 use Rattle.syn_parse.specs.Tokens.{sees_group, take_ident}
 use Rattle.syn_punctuated.specs.TakeLists.{list_form, take_terminated}
 use Rattle.syn_derive.specs.Attributes.{AttributeForm, attributes_form, take_attributes}
@@ -28,11 +25,11 @@ use Rattle.syn_derive.specs.declared.generics.Generics.{Generics}
 
 -- a `where` clause, if there is one
 abbrev pub take_clause : Taking (Option WhereForm)
-take_clause = take_optional sees_where take_where_clause
+take_clause = take_optional (sees Where) take_where_clause
 
 -- what comes after the parameters of a struct: fields, a `where` clause and a `;`
 abbrev pub BodyForm : Type 0
-BodyForm = Option WhereForm × FieldsForm × Option (Punctuation 36 1)
+BodyForm = Option WhereForm × FieldsForm × Option (Token Semi)
 
 -- what comes after a struct's parameters, as contracts see it
 abbrev pub body_form : Body → BodyForm
@@ -43,7 +40,7 @@ unfoldable pub take_tuple_body : Taking BodyForm
 take_tuple_body = do
   fields ← take_unnamed_fields
   clause ← take_clause
-  semi ← take_semi
+  semi ← take Semi
   gives (clause, unnamed fields, Some semi)
 
 -- a `where` clause, and fields in braces or `;`
@@ -53,7 +50,7 @@ take_other_body = do
   where_ahead (sees_group Brace) (do
     fields ← take_named_fields
     gives (clause, named fields, None)) (do
-      semi ← take_semi
+      semi ← take Semi
       gives (clause, unit, Some semi))
 
 -- takes what comes after a struct's parameters
@@ -62,9 +59,9 @@ take_body = where_ahead (sees_group Parenthesis) take_tuple_body take_other_body
 
 -- a struct's fields and `;`, an enum's variants, or a union's fields
 pub data DataForm : Type 0 where
-  of_struct : Keyword 40 → FieldsForm → Option (Punctuation 36 1) → DataForm
-  of_enum : Keyword 15 → DelimSpan → List VariantForm × List (Punctuation 7 1) → DataForm
-  of_union : Keyword 46 → DelimSpan × FieldList → DataForm
+  of_struct : Token Struct → FieldsForm → Option (Token Semi) → DataForm
+  of_enum : Token Enum → DelimSpan → List VariantForm × List (Token Comma) → DataForm
+  of_union : Token Union → DelimSpan × FieldList → DataForm
 
 -- a struct's fields, an enum's variants or a union's fields, as contracts see them
 abbrev pub data_form : Data → DataForm
@@ -89,7 +86,7 @@ item_form i = form_of_parts i.ident i.generics i.data
 -- takes `struct` and what comes after it
 unfoldable pub take_struct_item : Taking ItemForm
 take_struct_item = do
-  word ← take_struct
+  word ← take Struct
   ident ← take_ident
   params ← take_params
   body ← take_body
@@ -98,17 +95,17 @@ take_struct_item = do
 -- takes `enum` and what comes after it
 unfoldable pub take_enum_item : Taking ItemForm
 take_enum_item = do
-  word ← take_enum
+  word ← take Enum
   ident ← take_ident
   params ← take_params
   clause ← take_clause
-  variants ← take_group Brace (take_terminated take_variant take_comma)
+  variants ← take_group Brace (take_terminated take_variant (take Comma))
   gives (ident, params, clause, of_enum word variants.0 variants.1)
 
 -- takes `union` and what comes after it
 unfoldable pub take_union_item : Taking ItemForm
 take_union_item = do
-  word ← take_union
+  word ← take Union
   ident ← take_ident
   params ← take_params
   clause ← take_clause
@@ -118,8 +115,8 @@ take_union_item = do
 -- takes a struct, an enum or a union
 unfoldable pub take_item : Taking ItemForm
 take_item =
-    where_ahead sees_struct take_struct_item (where_ahead sees_enum take_enum_item
-    (where_ahead sees_union take_union_item
+    where_ahead (sees Struct) take_struct_item (where_ahead (sees Enum) take_enum_item
+    (where_ahead (sees Union) take_union_item
     (refuses (codes "expected one of: `struct`, `enum`, `union`"))))
 
 -- an item after attributes and a visibility

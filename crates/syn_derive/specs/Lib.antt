@@ -3,6 +3,7 @@ pub mod Printing
 pub mod Paths
 pub mod Metas
 pub mod Arguments
+pub mod NestedMetas
 pub mod Attributes
 pub mod Visibilities
 pub mod RunGrammar

@@ -6,13 +6,12 @@ use Rattle.tok_leaves.specs.Leaves.{ident_of}
 use Rattle.tok_leaves.specs.declared.ident.Ident.{Ident}
 use Rattle.tok_core.specs.Forest.{Forest, leaf, no_trees, tree}
 use Rattle.tok_core.specs.Laws.{followed_by, optional_trees}
-use Rattle.tok_types.specs.declared.punctuation.Punctuation.{Punctuation}
 use Rattle.syn_parse.specs.Lighter.{lightens_lower}
 use Rattle.syn_parse.specs.Optional.{take_optional}
 use Rattle.syn_parse.specs.Takes.{Taking, ◌>>=◌, gives, refuses, where_ahead}
 use Rattle.syn_parse.specs.Takings.{Lightens, Lowers}
-use Rattle.syn_parse.specs.TokenNames.{sees_crate, sees_path_sep, sees_self_type, sees_self_value}
-use Rattle.syn_parse.specs.TokenNames.{sees_super, take_path_sep}
+use Rattle.syn_parse.specs.TokenNames.{Crate, PathSep, SelfType, SelfValue, Super, Token, sees}
+use Rattle.syn_parse.specs.TokenNames.{take}
 use Rattle.syn_parse.specs.Tokens.{sees_any_ident, sees_literal, take_any_ident, take_ident}
 use Rattle.syn_parse.specs.TreesAhead.{Ahead, is_spent}
 use Rattle.syn_parse.specs.Weighing.{weighing}
@@ -26,7 +25,7 @@ use Rattle.syn_derive.specs.declared.path.PathSegment.{PathSegment}
 
 -- a reserved word that may be a segment
 abbrev pub sees_path_word : Ahead → Bool
-sees_path_word a = sees_crate a || sees_self_value a || sees_super a || sees_self_type a
+sees_path_word a = sees Crate a || sees SelfValue a || sees Super a || sees SelfType a
 
 -- a segment: one of these words, or an identifier that is not reserved
 unfoldable pub take_segment : Taking PathSegment
@@ -45,7 +44,7 @@ lightens_segment = lightens_lower take_segment lowers_segment
 
 -- the `::` before the segments, the segments, and each `::` between them
 abbrev pub PathForm : Type 0
-PathForm = Option (Punctuation 28 2) × (List PathSegment × List (Punctuation 28 2))
+PathForm = Option (Token PathSep) × (List PathSegment × List (Token PathSep))
 
 -- a path as contracts see it: its first `::` and its segments
 abbrev pub path_form : Path → PathForm
@@ -54,8 +53,8 @@ path_form p = (p.leading_colon, list_form (λ v. v) (λ p. p) p.segments)
 -- a path
 unfoldable pub take_path : Taking PathForm
 take_path = do
-  colon ← take_optional sees_path_sep take_path_sep
-  segments ← take_separated sees_path_sep take_segment take_path_sep
+  colon ← take_optional (sees PathSep) (take PathSep)
+  segments ← take_separated (sees PathSep) take_segment (take PathSep)
   gives (colon, segments)
 
 -- a path adds nothing to what is ahead
@@ -79,12 +78,12 @@ pub lightens_any_segment : Lightens take_any_segment
 lightens_any_segment = lightens_lower take_any_segment lowers_any_segment
 
 -- segments of any text with `::` between them
-unfoldable pub take_any_segments : Taking (List PathSegment × List (Punctuation 28 2))
-take_any_segments = take_separated sees_path_sep take_any_segment take_path_sep
+unfoldable pub take_any_segments : Taking (List PathSegment × List (Token PathSep))
+take_any_segments = take_separated (sees PathSep) take_any_segment (take PathSep)
 
 -- the segments of a nested meta's path, of any text; the error tells the end, a literal and another
 -- token apart
-unfoldable pub take_nested_segments : Taking (List PathSegment × List (Punctuation 28 2))
+unfoldable pub take_nested_segments : Taking (List PathSegment × List (Token PathSep))
 take_nested_segments =
     where_ahead sees_any_ident take_any_segments
     (where_ahead is_spent (refuses (codes "expected nested attribute"))
@@ -95,7 +94,7 @@ take_nested_segments =
 -- a path of any words
 unfoldable pub take_nested_path : Taking PathForm
 take_nested_path = do
-  colon ← take_optional sees_path_sep take_path_sep
+  colon ← take_optional (sees PathSep) (take PathSep)
   segments ← take_nested_segments
   gives (colon, segments)
 

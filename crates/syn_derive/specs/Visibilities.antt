@@ -7,24 +7,24 @@ use Rattle.tok_core.specs.Forest.{Forest, no_trees}
 use Rattle.tok_core.specs.Laws.{followed_by, optional_trees}
 use Rattle.tok_buffer.specs.EachRead.{first_if}
 use Rattle.tok_buffer.specs.Reads.{is_ident}
-use Rattle.tok_types.specs.declared.keyword.Keyword.{Keyword}
 use Rattle.syn_parse.specs.Inside.{sees_inside}
 use Rattle.syn_parse.specs.Optional.{take_optional}
 use Rattle.syn_parse.specs.Sequences.{take_both}
 use Rattle.syn_parse.specs.Takes.{Taking, ◌>>=◌, gives, take_group, where_ahead}
 use Rattle.syn_parse.specs.Takings.{Lightens}
-use Rattle.syn_parse.specs.TokenNames.{sees_in, sees_pub, take_in, take_pub}
+use Rattle.syn_parse.specs.TokenNames.{In, Pub, Token, sees, take}
 use Rattle.syn_parse.specs.Weighing.{weighing}
 use Rattle.syn_derive.specs.First.{crate_first, in_first, self_value_first, super_first}
 use Rattle.syn_derive.specs.Paths.{PathForm, lightens_path, path_form, path_trees, take_path}
 use Rattle.syn_derive.specs.Printing.{group_trees, keyword_trees}
 use Rattle.syn_derive.specs.declared.visibility.VisRestricted.{VisRestricted}
 use Rattle.syn_derive.specs.declared.visibility.Visibility.{Visibility}
-use Rattle.syn_derive.specs.declared.visibility.Visibility.TheVariants.{Inherited, Public, Restricted}
+use Rattle.syn_derive.specs.declared.visibility.Visibility.TheVariants.{Inherited, Public}
+use Rattle.syn_derive.specs.declared.visibility.Visibility.TheVariants.{Restricted}
 
 -- `pub`, the parentheses, and `in` and the path, or the path alone
 abbrev pub RestrictedForm : Type 0
-RestrictedForm = Keyword 32 × DelimSpan × Option (Keyword 22) × PathForm
+RestrictedForm = Token Pub × DelimSpan × Option (Token In) × PathForm
 
 -- a restricted visibility as contracts see it
 abbrev pub restricted_form : VisRestricted → RestrictedForm
@@ -32,7 +32,7 @@ restricted_form v = (v.pub_token, v.paren_token.span, v.in_token, path_form v.pa
 
 -- a visibility as contracts see it
 pub data VisibilityForm : Type 0 where
-  public : Keyword 32 → VisibilityForm
+  public : Token Pub → VisibilityForm
   restricted : RestrictedForm → VisibilityForm
   inherited : VisibilityForm
 
@@ -61,10 +61,10 @@ is_restriction inside = in_first inside || is_word_alone inside
 -- `pub (crate)`, `pub (self)`, `pub (super)`, `pub (in path)`, `pub` or nothing
 unfoldable pub take_visibility : Taking VisibilityForm
 take_visibility =
-    where_ahead sees_pub (do
-      word ← take_pub
+    where_ahead (sees Pub) (do
+      word ← take Pub
       where_ahead (sees_inside Parenthesis (λ a. is_restriction a.trees)) (do
-        r ← take_group Parenthesis (take_both (take_optional sees_in take_in) take_path)
+        r ← take_group Parenthesis (take_both (take_optional (sees In) (take In)) take_path)
         gives (restricted (word, r.0, r.1.0, r.1.1))) (gives (public word))) (gives inherited)
 
 -- a visibility adds nothing to what is ahead

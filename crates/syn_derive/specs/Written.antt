@@ -7,7 +7,7 @@ use Rattle.tok_leaves.specs.declared.ident.Ident.{Ident}
 use Rattle.tok_core.specs.Filled.{has_trees}
 use Rattle.tok_core.specs.Forest.{Forest, leaf, no_trees, tree}
 use Rattle.tok_core.specs.Laws.{followed_by, optional_trees}
-use Rattle.tok_types.specs.declared.punctuation.Punctuation.{Punctuation}
+use Rattle.syn_parse.specs.TokenNames.{Colon, Comma, Eq, Semi, Token}
 use Rattle.syn_punctuated.specs.Lists.{separators_of, values_of}
 use Rattle.syn_punctuated.specs.Printed.{by_turns}
 use Rattle.syn_punctuated.specs.declared.punctuated.Punctuated.{Punctuated}
@@ -58,11 +58,11 @@ abbrev pub field_head_trees : Field → Forest
 field_head_trees f = followed_by (attributes_trees f.attrs) (visibility_trees f.vis)
 
 -- a name and `:`
-abbrev pub named_as_trees : Ident → Option (Punctuation 6 1) → Forest
+abbrev pub named_as_trees : Ident → Option (Token Colon) → Forest
 named_as_trees i colon = followed_by (ident_trees i) (or_default_trees colon)
 
 -- the name of a field and `:`, or nothing if it has no name
-abbrev pub name_trees : Option Ident → Option (Punctuation 6 1) → Forest
+abbrev pub name_trees : Option Ident → Option (Token Colon) → Forest
 name_trees None colon = no_trees
 name_trees (Some i) colon = named_as_trees i colon
 
@@ -75,7 +75,7 @@ abbrev pub field_trees : Field → Forest
 field_trees f = followed_by (field_head_trees f) (typed_trees f)
 
 -- fields and the commas between them
-abbrev pub list_trees : Punctuated Field (Punctuation 7 1) → Forest
+abbrev pub list_trees : Punctuated Field (Token Comma) → Forest
 list_trees l = by_turns field_trees sign_trees (values_of l) (separators_of l)
 
 -- fields in braces
@@ -93,7 +93,7 @@ fields_trees (fields.Unnamed f) = unnamed_trees f
 fields_trees fields.Unit = no_trees
 
 -- `=` and the expression of a variant, or nothing if it has none
-abbrev pub discriminant_trees : Option (Punctuation 13 1 × Expr) → Forest
+abbrev pub discriminant_trees : Option (Token Eq × Expr) → Forest
 discriminant_trees None = no_trees
 discriminant_trees (Some d) = value_trees d.0 d.1.tokens
 
@@ -114,16 +114,16 @@ abbrev pub clause_trees : Option WhereClause → Forest
 clause_trees clause = optional_trees where_trees clause
 
 -- a `where` clause and `;`
-abbrev pub unit_trees : Option WhereClause → Option (Punctuation 36 1) → Forest
+abbrev pub unit_trees : Option WhereClause → Option (Token Semi) → Forest
 unit_trees clause semi = followed_by (clause_trees clause) (or_default_trees semi)
 
 -- fields in parentheses, a `where` clause and `;`
-abbrev pub tuple_trees : Option WhereClause → FieldsUnnamed → Option (Punctuation 36 1) → Forest
+abbrev pub tuple_trees : Option WhereClause → FieldsUnnamed → Option (Token Semi) → Forest
 tuple_trees clause f semi = followed_by (unnamed_trees f) (unit_trees clause semi)
 
 -- a struct after its parameters: fields in braces come after the `where` clause, those in
 -- parentheses before it, and `;` is at the end unless there are braces
-abbrev pub struct_trees : Option WhereClause → Fields → Option (Punctuation 36 1) → Forest
+abbrev pub struct_trees : Option WhereClause → Fields → Option (Token Semi) → Forest
 struct_trees clause (fields.Named f) semi = followed_by (clause_trees clause) (named_trees f)
 struct_trees clause (fields.Unnamed f) semi = tuple_trees clause f semi
 struct_trees clause fields.Unit semi = unit_trees clause semi

@@ -1,4 +1,4 @@
-//! What the arguments of attributes are parsed as.
+//! Methods that parse the arguments of attributes.
 ghost use Rattle.std.specs.Prelude.{◌≡◌, [], ◌∷◌, ◌++◌, IfOk, MatchResult, OnOk, string_bytes};
 ghost use Rattle.syn_parse.specs.Parsers.{ParsesWhole, whole_stream};
 ghost use Rattle.syn_parse.specs.Takings.{Keeps, KeepsWhole};
@@ -17,7 +17,7 @@ use tok_core::DelimSpan;
 use tok_types::token;
 
 impl MacroDelimiter {
-    /// Returns the span of both delimiters.
+    /// Returns the spans of the opening and the closing delimiter.
     pub fn span(&self) -> DelimSpan
         ensures { result ≡ delimiter_span self.now }
     {
@@ -76,9 +76,9 @@ impl Path {
 }
 
 impl Meta {
-    /// Returns the path, if nothing comes after it.
+    /// Returns the path if the meta consists only of a path.
     ///
-    /// If something does, returns an error where that begins.
+    /// Otherwise, returns an error at the first token after the path.
     pub fn require_path_only(&self, alloc: Global) -> Result<&Path>
         ensures { MatchResult result (λ p. self.now ≡ meta.Path p.now)
             (Lacks (lacks_path self.now)) }
@@ -91,9 +91,10 @@ impl Meta {
         Err(Fault::at(alloc, span, "unexpected token in attribute"))
     }
 
-    /// Returns the path and the tokens in delimiters, if it has any.
+    /// Returns the `MetaList` if the meta is a path with tokens in delimiters.
     ///
-    /// If not, returns an error: at the `=`, or at the path if nothing comes after it.
+    /// Otherwise, returns an error. The error is at the `=`, or at the path if the meta consists
+    /// only of a path.
     pub fn require_list(&self, alloc: Global) -> Result<&MetaList>
         ensures { MatchResult result (λ l. self.now ≡ meta.List l.now)
             (Lacks (lacks_list self.now)) }
@@ -109,9 +110,10 @@ impl Meta {
         }
     }
 
-    /// Returns the path and the expression after `=`, if it has one.
+    /// Returns the `MetaNameValue` if the meta is a path with an expression after `=`.
     ///
-    /// If not, returns an error: at the opening delimiter, or at the path if nothing comes after it.
+    /// Otherwise, returns an error. The error is at the opening delimiter, or at the path if the
+    /// meta consists only of a path.
     pub fn require_name_value(&self, alloc: Global) -> Result<&MetaNameValue>
         ensures { MatchResult result (λ v. self.now ≡ meta.NameValue v.now)
             (Lacks (lacks_value self.now)) }
@@ -139,10 +141,10 @@ fn parse_nested_list(input: ParseStream<'_, '_>) -> Result<Punctuated<Meta, toke
 }
 
 impl MetaList {
-    /// Parses all tokens in the delimiters.
+    /// Parses all tokens in the delimiters as a `T`.
     ///
-    /// An error at their end is at the closing delimiter. A leftover token is an error, unless the
-    /// parser has returned one.
+    /// An error at the end of the tokens has the span of the closing delimiter. If the parser
+    /// returns a value but leaves a token unread, the call returns an error.
     pub fn parse_args<T: Parse + Drop>(&self, alloc: Global) -> Result<T>
         ensures { KeepsWhole T.takes self.now.tokens (end_of self.now) result }
     {
@@ -154,11 +156,13 @@ impl MetaList {
         )
     }
 
-    /// Parses all tokens in the delimiters by a function, as `parse_args` does.
+    /// Parses all tokens in the delimiters with `parser`.
+    ///
+    /// Errors have the same positions as errors of `parse_args`.
     ///
     /// # Requires
     ///
-    /// The parser must be callable on the stream of the tokens.
+    /// `parser` must be callable on the stream of the tokens in the delimiters.
     pub fn parse_args_with<F: Parser + Drop>(&self, alloc: Global, parser: F) -> Result<F::Output>
         requires { F.callable parser (whole_stream self.now.tokens (end_of self.now)) }
         ensures { ParsesWhole (F.parses parser) (whole_stream self.now.tokens (end_of self.now))
@@ -168,10 +172,10 @@ impl MetaList {
         parser.parse_scoped(alloc, self.delimiter.span().close(), tokens)
     }
 
-    /// Parses all tokens in the delimiters as metas with commas between them.
+    /// Parses all tokens in the delimiters as a list of metas with commas between them.
     ///
-    /// Any word may be a segment of their paths, as in `serde(default, type = "u8")`. Errors are at
-    /// the places of `parse_args`.
+    /// Any word may be a segment of a meta's path, such as `type` in `serde(default, type = "u8")`.
+    /// Errors have the same positions as errors of `parse_args`.
     pub fn parse_nested_meta(&self, alloc: Global) -> Result<Punctuated<Meta, token::Comma>>
         ensures { KeepsWhole nested_list self.now.tokens (end_of self.now) result }
     {
@@ -181,7 +185,7 @@ impl MetaList {
 
 impl Attribute {
     // Returns the list, or an error if the attribute is none.
-    fn arguments(&self, alloc: Global) -> Result<&MetaList>
+    pub(crate) fn arguments(&self, alloc: Global) -> Result<&MetaList>
         ensures { MatchResult result (λ l. self.now.meta ≡ meta.List l.now)
             (Lacks (lacks_arguments self.now.meta)) }
     {
@@ -204,11 +208,13 @@ impl Attribute {
         }
     }
 
-    /// Parses all arguments: the tokens in the delimiters after the path.
+    /// Parses all arguments of the attribute as a `T`.
     ///
-    /// An error at their end is at the closing delimiter. A leftover token is an error, unless the
-    /// parser has returned one. An attribute without arguments is an error, at the `=` or at the
-    /// path.
+    /// The arguments are the tokens in the delimiters after the path. An error at the end of these
+    /// tokens has the span of the closing delimiter. If the parser returns a value but leaves a
+    /// token unread, the call returns an error.
+    ///
+    /// If the attribute has no arguments, returns an error at the `=` or at the path.
     ///
     /// # Examples
     ///
@@ -221,11 +227,13 @@ impl Attribute {
         self.arguments(alloc)?.parse_args(alloc)
     }
 
-    /// Parses all arguments by a function, as `parse_args` does.
+    /// Parses all arguments of the attribute with `parser`.
+    ///
+    /// Errors have the same positions as errors of `parse_args`.
     ///
     /// # Requires
     ///
-    /// The parser must be callable on the stream of the arguments, if there are any.
+    /// `parser` must be callable on the stream of the arguments, if there are any.
     ///
     /// # Examples
     ///
@@ -244,10 +252,10 @@ impl Attribute {
         self.arguments(alloc)?.parse_args_with(alloc, parser)
     }
 
-    /// Parses all arguments as metas with commas between them.
+    /// Parses all arguments of the attribute as a list of metas with commas between them.
     ///
-    /// Any word may be a segment of their paths, as in `#[serde(default, type = "u8")]`. Errors are
-    /// at the places of `parse_args`.
+    /// Any word may be a segment of a meta's path, such as `type` in
+    /// `#[serde(default, type = "u8")]`. Errors have the same positions as errors of `parse_args`.
     ///
     /// # Examples
     ///

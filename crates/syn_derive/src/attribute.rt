@@ -1,4 +1,4 @@
-//! Outer attributes.
+//! Types and parsers for outer attributes, such as `#[derive(Debug)]`.
 ghost use Rattle.syn_parse.specs.Takes.{TakesAs};
 ghost use Rattle.syn_parse.specs.Takings.{lower, told};
 ghost use Rattle.std.specs.Prelude.{◌≡◌, OnErr, OnOk};
@@ -15,9 +15,9 @@ use tok_core::laws::writes_follow_writes;
 use tok_core::{Delimiter, ToTokens, TokenStream};
 use tok_types::token;
 
-/// An outer attribute, as `#[doc = "text"]`.
+/// An outer attribute, such as `#[doc = "text"]`.
 ///
-/// A doc comment is one too: the lexer reads it as such an attribute.
+/// A doc comment is also an attribute, because the lexer reads every doc comment as an attribute.
 #[derive(Drop)]
 pub struct Attribute {
     pub pound_token: token::Pound,
@@ -26,14 +26,14 @@ pub struct Attribute {
 }
 
 impl Attribute {
-    /// Returns the path.
+    /// Returns the path of the attribute.
     pub fn path(&self) -> &Path
         ensures { result.now ≡ meta_path self.now.meta }
     {
         self.meta.path()
     }
 
-    /// Parses as many outer attributes as there are.
+    /// Parses zero or more outer attributes.
     pub fn parse_outer(input: ParseStream<'_, '_>) -> Result<Vec<Attribute>>
         ensures { TakesAs attributes_form take_attributes input.old result input.new }
     {
@@ -71,7 +71,7 @@ impl ToTokens for Attribute {
     }
 }
 
-/// Appends attributes, in turn.
+/// Appends the tokens of `attrs` to `tokens`, in order.
 pub(crate) fn write_attributes(
     attrs: &Vec<Attribute>,
     tokens: &mut TokenStream,

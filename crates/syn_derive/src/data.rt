@@ -1,4 +1,4 @@
-//! Fields and variants.
+//! Types for the fields and variants of an item.
 ghost use Rattle.std.specs.Prelude.{◌≡◌, OnErr, OnOk};
 ghost use Rattle.tok_core.specs.Forest.{AppendsFront, concat};
 ghost use Rattle.syn_parse.specs.Takings.{Keeps, lighter, lower, taken_filled, told_filled};
@@ -19,7 +19,7 @@ use tok_core::laws::writes_follow_writes;
 use tok_core::{Delimiter, Ident, ToTokens, TokenStream};
 use tok_types::token;
 
-/// The fields of a struct or a variant: in braces, in parentheses, or none.
+/// The fields of a struct or a variant: named fields, unnamed fields, or none.
 #[derive(Drop)]
 pub enum Fields {
     Named(FieldsNamed),
@@ -27,14 +27,14 @@ pub enum Fields {
     Unit,
 }
 
-/// Fields `name: type` in braces, with commas between them.
+/// Named fields in braces, with commas between them, such as `{ x: u8, y: u8 }`.
 #[derive(Drop)]
 pub struct FieldsNamed {
     pub brace_token: token::Brace,
     pub named: Punctuated<Field, token::Comma>,
 }
 
-/// Fields without names in parentheses, with commas between them.
+/// Unnamed fields in parentheses, with commas between them, such as `(u8, u8)`.
 #[derive(Drop)]
 pub struct FieldsUnnamed {
     pub paren_token: token::Paren,
@@ -61,7 +61,8 @@ pub struct Variant {
 }
 
 impl Field {
-    /// Parses a field `name: type`.
+    /// Parses a named field, which consists of attributes, a visibility, a name, a colon and a
+    /// type.
     #[tactic(auto, unfolding(crate::specs::Fields::take_named_field, syn_parse::specs::Reads::Does))]
     pub fn parse_named(input: ParseStream<'_, '_>) -> Result<Field>
         ensures takes { Keeps named_field input.old result input.new }
@@ -81,7 +82,7 @@ impl Field {
         })
     }
 
-    /// Parses a field without a name: a type after attributes and a visibility.
+    /// Parses an unnamed field, which consists of attributes, a visibility and a type.
     #[tactic(auto, unfolding(crate::specs::Fields::take_unnamed_field, syn_parse::specs::Reads::Does))]
     pub fn parse_unnamed(input: ParseStream<'_, '_>) -> Result<Field>
         ensures takes { Keeps unnamed_field input.old result input.new }

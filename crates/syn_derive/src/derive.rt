@@ -1,4 +1,4 @@
-//! Structs, enums and unions.
+//! Types for structs, enums and unions.
 ghost use Rattle.std.specs.Prelude.{◌≡◌, OnErr, OnOk};
 ghost use Rattle.tok_core.specs.Forest.{AppendsFront, concat};
 ghost use Rattle.syn_parse.specs.Takings.{Keeps, taken_filled};
@@ -19,7 +19,7 @@ use tok_core::laws::writes_follow_writes;
 use tok_core::{Delimiter, Ident, ToTokens, TokenStream};
 use tok_types::token;
 
-/// A struct, an enum or a union, as a derive is given it.
+/// A struct, an enum or a union, as a derive macro receives it.
 ///
 /// # Examples
 ///

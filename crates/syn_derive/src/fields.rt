@@ -1,4 +1,4 @@
-//! The iterator over fields. Contracts see it as the list of the fields that are left.
+//! An iterator over fields. Contracts describe the iterator as the list of its remaining fields.
 ghost use Rattle.std.specs.Prelude.{◌≡◌, ◌==◌, length, IfSome};
 ghost use Rattle.std.specs.Iterator.{at_most, UpTo};
 ghost use Rattle.std.specs.Iterator.SizeHint.{IsWithinCount};
@@ -13,7 +13,9 @@ use syn_punctuated::Iter;
 use tok_types::token;
 
 impl Fields {
-    /// Returns an iterator over the fields in order. `Unit` has none.
+    /// Returns an iterator over the fields, in order.
+    ///
+    /// The iterator over `Fields::Unit` is empty.
     ///
     /// # Examples
     ///
@@ -37,7 +39,7 @@ impl Fields {
         ListIter { rest }
     }
 
-    /// Returns how many fields there are.
+    /// Returns the number of fields.
     pub fn len(&self) -> usize
         ensures { result ≡ length (each_field self.now) }
     {
@@ -66,10 +68,14 @@ impl<'a> IntoIterator for &'a Fields {
     }
 }
 
-/// An iterator over the fields that are left. `Fields::iter` returns it.
+/// An iterator over fields.
+///
+/// This iterator is created by the `iter` method of `Fields`.
 pub type FieldsIter<'a> = ListIter<'a, Field, token::Comma>;
 
-/// An iterator over the values that are left of a list, or of none.
+/// An iterator over the values of an optional list.
+///
+/// The iterator is empty if there is no list.
 #[derive(Drop)]
 pub struct ListIter<'a, T, P> {
     rest: Option<Iter<'a, T, P>>,

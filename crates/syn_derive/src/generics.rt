@@ -1,4 +1,4 @@
-//! Parameters and `where` clauses.
+//! Types for generic parameters and `where` clauses.
 ghost use Rattle.std.specs.Prelude.{◌≡◌, OnErr, OnOk};
 ghost use Rattle.tok_core.specs.Forest.{AppendsFront, concat};
 ghost use Rattle.syn_parse.specs.Takings.{lighter, lower, told};
@@ -14,9 +14,9 @@ use tok_core::laws::writes_follow_writes;
 use tok_core::{ToTokens, TokenStream};
 use tok_types::token;
 
-/// The parameters of an item, as tokens between `<` and `>`, and its `where` clause.
+/// The generic parameters of an item, as tokens between `<` and `>`, and the item's `where` clause.
 ///
-/// Parses the parameters alone, as in `syn`.
+/// As in `syn`, the parser of `Generics` reads only the parameters.
 #[derive(Drop)]
 pub struct Generics {
     pub lt_token: Option<token::Lt>,
@@ -25,7 +25,7 @@ pub struct Generics {
     pub where_clause: Option<WhereClause>,
 }
 
-/// A `where` clause, with its predicates as tokens up to braces or a `;`.
+/// A `where` clause, whose predicates are all tokens up to braces or a `;`.
 #[derive(Drop)]
 pub struct WhereClause {
     pub where_token: token::Where,
@@ -97,8 +97,8 @@ impl Parse for WhereClause {
     }
 }
 
-/// Writes the parameters between `<` and `>`, or nothing if there are none. The `where` clause is
-/// not written.
+/// Writes the parameters between `<` and `>`, or nothing if there are no parameters. The `where`
+/// clause is not written.
 impl ToTokens for Generics {
     ghost printed = { generics_trees };
 
@@ -146,7 +146,7 @@ impl WhereClause {
     }
 }
 
-/// Writes nothing if there are no predicates.
+/// Writes the `where` clause, or nothing if the clause has no predicates.
 impl ToTokens for WhereClause {
     ghost printed = { where_trees };
 

@@ -1,5 +1,7 @@
-//! Structs, enums and unions, as a derive is given them, by the names of `syn`: attributes, paths,
-//! visibilities, fields and variants. Types, expressions, parameters and predicates are tokens.
+//! Types for structs, enums and unions, as a derive macro receives them, with the names of `syn`.
+//!
+//! Attributes, paths, visibilities, fields and variants have types of their own. Types,
+//! expressions, parameters and predicates are represented as tokens.
 #![tactic(auto)]
 
 mod arguments;
@@ -10,6 +12,7 @@ mod fields;
 mod generics;
 pub mod laws;
 mod meta;
+mod nested;
 mod path;
 mod print;
 mod run;
@@ -22,6 +25,7 @@ pub use derive::{Data, DataEnum, DataStruct, DataUnion, DeriveInput};
 pub use fields::FieldsIter;
 pub use generics::{Generics, WhereClause};
 pub use meta::{MacroDelimiter, Meta, MetaList, MetaNameValue};
+pub use nested::NestedMeta;
 pub use path::{Path, PathSegment};
 pub use ty::{Expr, Type};
 pub use visibility::{VisRestricted, Visibility};

@@ -1,4 +1,4 @@
-//! What attributes hold.
+//! Types for the contents of attributes.
 ghost use Rattle.std.specs.Prelude.{◌≡◌, OnErr, OnOk};
 ghost use Rattle.tok_core.specs.Erase.{erase};
 ghost use Rattle.tok_core.specs.Forest.{AppendsFront, concat};
@@ -6,22 +6,23 @@ ghost use Rattle.tok_buffer.specs.View.{IsVisibleDelimiter};
 ghost use Rattle.syn_parse.specs.Takes.{TakesAs, take_group};
 ghost use Rattle.syn_parse.specs.TreeTakes.{take_rest};
 ghost use Rattle.syn_parse.specs.Takings.{Keeps, lighter, taken_as, told};
-ghost use Rattle.syn_derive.specs.Metas.{delimited_trees, lightens_meta, meta_form, meta_list_trees, meta_path, meta_trees, name_value_trees, nested_meta, take_meta, take_meta_after, take_meta_path, take_nested_meta, value_trees};
+ghost use Rattle.syn_parse.specs.TreesAhead.{ahead};
+ghost use Rattle.syn_derive.specs.Metas.{delimited_by, delimited_trees, lightens_meta, lightens_meta_list, lightens_name_value, meta_form, meta_list_form, meta_list_trees, meta_path, meta_trees, name_value_form, name_value_trees, nested_meta, sees_delimiters, take_delimiters, take_list_after, take_meta, take_meta_after, take_meta_list, take_meta_path, take_name_value, take_nested_meta, take_value_after, value_trees};
 ghost use Rattle.syn_derive.specs.Paths.{path_form};
 
 use crate::path::Path;
 use crate::print::write_group;
 use crate::ty::Expr;
 use std::alloc::AllocError;
-use syn_parse::{IdentExt, Parse, ParseStream, Result};
+use syn_parse::{IdentExt, Parse, ParseBuffer, ParseStream, Result};
 use tok_core::laws::writes_follow_writes;
 use tok_core::{DelimSpan, Delimiter, Ident, ToTokens, TokenStream};
 use tok_types::token;
 
-/// The contents of an attribute: a path, and perhaps tokens in delimiters or an expression after
-/// `=`.
+/// The contents of an attribute, such as `derive(Debug)`.
 ///
-/// The word `unsafe` alone may be the path, as in `unsafe(no_mangle)`.
+/// A `Meta` consists of a path, and optionally of tokens in delimiters or an expression after `=`.
+/// The single word `unsafe` may also be the path, as in `unsafe(no_mangle)`.
 #[derive(Drop)]
 pub enum Meta {
     Path(Path),
@@ -29,7 +30,7 @@ pub enum Meta {
     NameValue(MetaNameValue),
 }
 
-/// A path and tokens in delimiters, as `derive(Debug)`. The tokens can be any.
+/// A path with tokens in delimiters after it, such as `derive(Debug)`.
 #[derive(Drop)]
 pub struct MetaList {
     pub path: Path,
@@ -45,7 +46,7 @@ pub enum MacroDelimiter {
     Bracket(token::Bracket),
 }
 
-/// A path and an expression after `=`, as `doc = "text"`.
+/// A path with `=` and an expression after it, such as `doc = "text"`.
 #[derive(Drop)]
 pub struct MetaNameValue {
     pub path: Path,
@@ -54,7 +55,7 @@ pub struct MetaNameValue {
 }
 
 impl Meta {
-    /// Returns the path.
+    /// Returns the path of the meta.
     pub fn path(&self) -> &Path
         ensures { result.now ≡ meta_path self.now }
     {
@@ -107,51 +108,79 @@ fn parse_meta_path(input: ParseStream<'_, '_>) -> Result<Path>
     }
 }
 
+// Returns `true` if a group with visible delimiters is next.
+fn is_delimiter_next(input: &ParseBuffer<'_>) -> bool
+    ensures { result ≡ sees_delimiters (ahead input.now) }
+{
+    input.peek::<token::Paren>() || input.peek::<token::Bracket>() || input.peek::<token::Brace>()
+}
+
+// Parses tokens in delimiters.
+#[tactic(auto, unfolding(crate::specs::Metas::take_delimiters))]
+fn parse_delimiter(input: ParseStream<'_, '_>) -> Result<(MacroDelimiter, TokenStream)>
+    ensures { TakesAs (λ r. delimited_by r.0 (erase r.1)) take_delimiters input.old result
+        input.new }
+{
+    if input.peek::<token::Paren>() {
+        let (span, tokens) = parse_delimited(input, Delimiter::Parenthesis)?;
+        Ok((MacroDelimiter::Paren(token::Paren::new(span)), tokens))
+    } else if input.peek::<token::Bracket>() {
+        let (span, tokens) = parse_delimited(input, Delimiter::Bracket)?;
+        Ok((MacroDelimiter::Bracket(token::Bracket::new(span)), tokens))
+    } else if input.peek::<token::Brace>() {
+        let (span, tokens) = parse_delimited(input, Delimiter::Brace)?;
+        Ok((MacroDelimiter::Brace(token::Brace::new(span)), tokens))
+    } else {
+        Err(input.error("expected delimiter"))
+    }
+}
+
+// Parses tokens in delimiters after a path.
+fn parse_list_after(path: Path, input: ParseStream<'_, '_>) -> Result<MetaList>
+    ensures { TakesAs meta_list_form (take_list_after (path_form path)) input.old result
+        input.new }
+{
+    let (delimiter, tokens) = parse_delimiter(input)?;
+    Ok(MetaList {
+        path,
+        delimiter,
+        tokens,
+    })
+}
+
+// Parses `=` and an expression after a path.
+#[tactic(auto, unfolding(crate::specs::Metas::take_assigned))]
+fn parse_value_after(path: Path, input: ParseStream<'_, '_>) -> Result<MetaNameValue>
+    ensures { TakesAs name_value_form (take_value_after (path_form path)) input.old result
+        input.new }
+{
+    let eq_token = input.parse()?;
+    let value = input.parse()?;
+    Ok(MetaNameValue {
+        path,
+        eq_token,
+        value,
+    })
+}
+
 // Parses what comes after the path.
 #[tactic(auto, unfolding(crate::specs::Metas::take_meta_after))]
 fn parse_meta_after(path: Path, input: ParseStream<'_, '_>) -> Result<Meta>
     ensures { TakesAs meta_form (take_meta_after (path_form path)) input.old result input.new }
 {
     if input.peek::<token::Eq>() {
-        let eq_token = input.parse()?;
-        let value = input.parse()?;
-        Ok(Meta::NameValue(MetaNameValue {
-            path,
-            eq_token,
-            value,
-        }))
-    } else if input.peek::<token::Paren>() {
-        let (span, tokens) = parse_delimited(input, Delimiter::Parenthesis)?;
-        let delimiter = MacroDelimiter::Paren(token::Paren::new(span));
-        Ok(Meta::List(MetaList {
-            path,
-            delimiter,
-            tokens,
-        }))
-    } else if input.peek::<token::Bracket>() {
-        let (span, tokens) = parse_delimited(input, Delimiter::Bracket)?;
-        let delimiter = MacroDelimiter::Bracket(token::Bracket::new(span));
-        Ok(Meta::List(MetaList {
-            path,
-            delimiter,
-            tokens,
-        }))
-    } else if input.peek::<token::Brace>() {
-        let (span, tokens) = parse_delimited(input, Delimiter::Brace)?;
-        let delimiter = MacroDelimiter::Brace(token::Brace::new(span));
-        Ok(Meta::List(MetaList {
-            path,
-            delimiter,
-            tokens,
-        }))
+        Ok(Meta::NameValue(parse_value_after(path, input)?))
+    } else if is_delimiter_next(input) {
+        Ok(Meta::List(parse_list_after(path, input)?))
     } else {
         Ok(Meta::Path(path))
     }
 }
 
 impl Meta {
-    /// Parses a meta in the arguments of an attribute. Any word may be a segment of its path, as in
-    /// `type = "u8"`.
+    /// Parses a meta in the arguments of an attribute.
+    ///
+    /// Any word may be a segment of the meta's path, such as `type` in `type = "u8"`.
     #[tactic(auto, unfolding(crate::specs::Metas::take_nested_meta))]
     pub fn parse_nested(input: ParseStream<'_, '_>) -> Result<Meta>
         ensures { Keeps nested_meta input.old result input.new }
@@ -166,8 +195,27 @@ impl Parse for Meta {
 
     #[tactic(auto, unfolding(crate::specs::Metas::take_meta))]
     fn parse(input: ParseStream<'_, '_>) -> Result<Self> {
+        parse_meta_after(parse_meta_path(input)?, input)
+    }
+}
+
+impl Parse for MetaList {
+    ghost takes = { told meta_list_form take_meta_list (lighter lightens_meta_list) };
+
+    #[tactic(auto, unfolding(crate::specs::Metas::take_meta_list))]
+    fn parse(input: ParseStream<'_, '_>) -> Result<Self> {
         let path = parse_meta_path(input)?;
-        parse_meta_after(path, input)
+        parse_list_after(path, input)
+    }
+}
+
+impl Parse for MetaNameValue {
+    ghost takes = { told name_value_form take_name_value (lighter lightens_name_value) };
+
+    #[tactic(auto, unfolding(crate::specs::Metas::take_name_value))]
+    fn parse(input: ParseStream<'_, '_>) -> Result<Self> {
+        let path = parse_meta_path(input)?;
+        parse_value_after(path, input)
     }
 }
 

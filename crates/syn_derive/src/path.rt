@@ -1,4 +1,4 @@
-//! Paths without arguments.
+//! Types for paths without arguments.
 ghost use Rattle.std.specs.Option.{option_copied};
 ghost use Rattle.std.specs.Prelude.{◌≡◌, IfOk, not};
 ghost use Rattle.tok_core.specs.Filled.{has_trees};
@@ -20,17 +20,19 @@ use tok_core::laws::writes_follow_writes;
 use tok_core::{Ident, Literal, ToTokens, TokenStream};
 use tok_types::{IdentAny, token};
 
-/// A path without arguments: segments with `::` between them, and maybe before them.
+/// A path without arguments, such as `a::b`.
 ///
-/// Parses as `Path::parse_mod_style` of `syn` does.
+/// A path consists of segments with `::` between them, and optionally begins with `::`. The parser
+/// of `Path` reads the same paths as `Path::parse_mod_style` in `syn`.
 #[derive(Drop)]
 pub struct Path {
     pub leading_colon: Option<token::PathSep>,
     pub segments: Punctuated<PathSegment, token::PathSep>,
 }
 
-/// A segment of a path: an identifier that is no reserved word, or `crate`, `self`, `super` or
-/// `Self`.
+/// A segment of a path.
+///
+/// A segment is an identifier that is not a reserved word, or `crate`, `self`, `super` or `Self`.
 #[derive(Drop)]
 pub struct PathSegment {
     pub ident: Ident,
@@ -49,7 +51,7 @@ impl Path {
         })
     }
 
-    /// Returns the identifier, if the path is a segment alone.
+    /// Returns the identifier if the path consists of a single segment, and `None` otherwise.
     pub fn get_ident(&self) -> Option<&Ident>
         ensures { option_copied result ≡ only_ident (path_form self.now) }
     {
@@ -62,7 +64,8 @@ impl Path {
         Some(&self.segments.first()?.ident)
     }
 
-    /// Returns `true` if the path is a segment with this text alone.
+    /// Returns `true` if the path consists of a single segment, and `text` is the text of this
+    /// segment.
     pub fn is_ident(&self, text: &str) -> bool
         ensures { result ≡ is_only text.now (path_form self.now) }
     {

@@ -1,4 +1,4 @@
-//! What the values of this crate share in writing themselves.
+//! Functions that write the values of this crate as tokens.
 ghost use Rattle.std.specs.Prelude.{◌≡◌, OnErr, OnOk};
 ghost use Rattle.tok_core.specs.Forest.{AppendsFront, concat, no_trees};
 ghost use Rattle.tok_core.specs.Laws.{followed_by};
@@ -9,7 +9,7 @@ use tok_core::laws::writes_follow_writes;
 use tok_core::{DelimSpan, Delimiter, Group, ToTokens, TokenStream, TokenTree};
 use tok_types::token::Punctuation;
 
-/// Appends nothing: what is written of a part that is missing.
+/// Appends nothing to `tokens`. Callers use this function in place of a part that is missing.
 pub fn write_nothing(tokens: &mut TokenStream) -> Result<(), AllocError>
     ensures ok { OnOk result (tokens.new ≡ concat tokens.old no_trees) }
     ensures err { OnErr result ⊥ }
@@ -18,7 +18,7 @@ pub fn write_nothing(tokens: &mut TokenStream) -> Result<(), AllocError>
     Ok(())
 }
 
-/// Appends the tokens of values, in turn.
+/// Appends the tokens of `values` to `tokens`, in order.
 pub fn write_all<T: ToTokens>(values: &[T], tokens: &mut TokenStream) -> Result<(), AllocError>
     ensures ok { OnOk result
         (tokens.new ≡ concat tokens.old (all_trees T.printed values.now)) }
@@ -31,7 +31,7 @@ pub fn write_all<T: ToTokens>(values: &[T], tokens: &mut TokenStream) -> Result<
     Ok(())
 }
 
-/// Appends the tokens of two values, in turn.
+/// Appends the tokens of `first` and `second` to `tokens`, in order.
 pub fn write_both<A: ToTokens, B: ToTokens>(
     first: &A,
     second: &B,
@@ -49,7 +49,7 @@ pub fn write_both<A: ToTokens, B: ToTokens>(
     second.to_tokens(tokens)
 }
 
-/// Appends a punctuation, or the one at the call site if there is none.
+/// Appends `sign`, or a new punctuation at the call site if `sign` is `None`.
 pub fn write_or_default<const K: usize>(
     sign: &Option<Punctuation<K, 1>>,
     tokens: &mut TokenStream,
@@ -65,7 +65,7 @@ pub fn write_or_default<const K: usize>(
     }
 }
 
-/// Appends a group with this delimiter and span, of what a value is written as.
+/// Appends a group that has this delimiter and span, and contains the tokens of `inside`.
 pub fn write_group<T: ToTokens>(
     delimiter: Delimiter,
     span: DelimSpan,

@@ -1,4 +1,5 @@
-//! Runs of tokens: types, expressions, parameters and predicates are tokens up to where they end.
+//! Runs of tokens. Types, expressions, parameters and predicates are runs of tokens, which end
+//! before certain tokens.
 ghost use Rattle.std.specs.Prelude.{◌≡◌};
 ghost use Rattle.tok_buffer.specs.Cursors.{place_of};
 ghost use Rattle.tok_buffer.specs.View.{erased_ahead};
@@ -13,7 +14,7 @@ use tok_core::{Ident, Punct, TokenStream};
 use tok_types::token::Token;
 use tok_types::{IdentAny, token};
 
-/// The kind of a run of tokens, which says where it ends before the end of its stream.
+/// The kind of a run of tokens, which determines the tokens before which the run ends.
 #[derive(Clone, Copy, PartialEq, Eq)]
 pub(crate) enum Until {
     // A type ends at `,`, `;`, `=`, `>`, a `:` that is alone, or braces after a value.
@@ -37,7 +38,7 @@ pub(crate) enum Last {
     Operand,
 }
 
-/// The state of a run: how many `<` are open, and the last token.
+/// The state of a run: the number of open `<`, and the last token.
 #[derive(Clone, Copy)]
 pub(crate) struct Passed {
     pub(crate) until: Until,
@@ -173,7 +174,7 @@ fn last_after(cursor: Cursor<'_>) -> Last
     }
 }
 
-/// Parses tokens up to where a run ends. Each `<` that opens there is closed.
+/// Parses a run of tokens, in which each opening `<` has a matching `>`.
 #[tactic(auto, unfolding(crate::specs::Runs::take_until))]
 pub(crate) fn parse_until(input: ParseStream<'_, '_>, until: Until) -> Result<TokenStream>
     ensures takes { TakesAs erase (take_until until) input.old result input.new }

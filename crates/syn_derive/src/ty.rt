@@ -8,22 +8,29 @@ use std::alloc::AllocError;
 use syn_parse::{Parse, ParseStream, Result};
 use tok_core::{ToTokens, TokenStream};
 
-/// A type, as tokens: at least one, up to a `,`, `;`, `=`, `>`, a `:` alone, or braces after a value.
+/// A type, which is represented as tokens.
 ///
-/// An invisible group that lies wholly in the type is kept.
+/// A type has at least one token. It ends before a `,`, `;`, `=` or `>`, before a single `:`, or
+/// before braces that come after an operand, such as a name.
 ///
-/// Within `<..>` it goes on up to the `>`. An error says if that is missing.
+/// Inside `<..>`, the type continues up to the `>`. If the `>` is missing, the parser returns an
+/// error that says so.
+///
+/// An invisible group that lies entirely in the type is kept.
 #[derive(Drop)]
 pub struct Type {
     pub tokens: TokenStream,
 }
 
-/// An expression, as tokens: at least one, up to a `,` or `;` that is in no `<..>`.
+/// An expression, which is represented as tokens.
 ///
-/// An invisible group that lies wholly in the expression is kept.
+/// An expression has at least one token. It ends before a `,` or `;` outside of `<..>`.
 ///
-/// A `<` opens where a value is expected, as after an operator or `::`. After a value it is an
-/// operator itself. An error says if the `>` of one that opens is missing.
+/// If a `<` is next where a value is expected, for example after an operator or `::`, then this `<`
+/// must have a matching `>`. If the `>` is missing, the parser returns an error that says so. After
+/// a value, a `<` is an operator.
+///
+/// An invisible group that lies entirely in the expression is kept.
 #[derive(Drop)]
 pub struct Expr {
     pub tokens: TokenStream,

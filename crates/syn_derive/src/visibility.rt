@@ -1,4 +1,4 @@
-//! Visibilities.
+//! Types for the visibilities of items and fields.
 ghost use Rattle.std.specs.Prelude.{◌≡◌, OnErr, OnOk, Some};
 ghost use Rattle.tok_core.specs.Forest.{AppendsFront, concat};
 ghost use Rattle.tok_buffer.specs.Cursors.{place_of};
@@ -17,10 +17,12 @@ use tok_core::{Delimiter, Group, ToTokens, TokenStream, TokenTree};
 use tok_types::token;
 use tok_types::token::Token;
 
-/// A visibility: `pub`, `pub(crate)`, `pub(self)`, `pub(super)`, `pub(in path)`, or none.
+/// The visibility of an item or a field: `pub`, `pub(crate)`, `pub(self)`, `pub(super)`,
+/// `pub(in path)` or none.
 ///
-/// Parentheses after `pub` belong to it if they hold `crate`, `self` or `super` alone, or begin
-/// with `in`. So they don't in the tuple field `pub (u8, u8)`.
+/// Parentheses after `pub` belong to the visibility if they contain only `crate`, `self` or
+/// `super`, or begin with `in`. In the tuple field `pub (u8, u8)`, the parentheses therefore belong
+/// to the type.
 #[derive(Drop)]
 pub enum Visibility {
     Public(token::Pub),
@@ -28,7 +30,7 @@ pub enum Visibility {
     Inherited,
 }
 
-/// A visibility with a restriction in parentheses.
+/// A visibility with a restriction in parentheses, such as `pub(crate)`.
 #[derive(Drop)]
 pub struct VisRestricted {
     pub pub_token: token::Pub,
@@ -122,7 +124,7 @@ impl ToTokens for VisRestricted {
     }
 }
 
-/// Writes nothing for an inherited visibility.
+/// Writes the visibility, or nothing if the visibility is inherited.
 impl ToTokens for Visibility {
     ghost printed = { visibility_trees };
 

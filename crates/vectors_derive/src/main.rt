@@ -6,11 +6,11 @@
 #![tactic(auto)]
 
 use anyhow::{Context, Result};
-use either::Either;
 use std::alloc::Global;
 use std::io;
 use syn_derive::{
-    Attribute, Data, DeriveInput, Expr, Fields, Generics, Meta, Path, Type, Visibility, WhereClause,
+    Attribute, Data, DeriveInput, Expr, Fields, Generics, Meta, MetaList, MetaNameValue,
+    NestedMeta, Path, Type, Visibility, WhereClause,
 };
 use syn_parse::{ParseStream, Parser, parse2};
 use syn_punctuated::Punctuated;
@@ -44,6 +44,8 @@ fn parsed(alloc: Global, name: &str, tokens: TokenStream) -> Option<syn_parse::R
     let returned = match name {
         "Path" => path.parse2(alloc, tokens),
         "Meta" => meta.parse2(alloc, tokens),
+        "MetaList" => meta_list.parse2(alloc, tokens),
+        "MetaNameValue" => meta_name_value.parse2(alloc, tokens),
         "Attribute" => attribute.parse2(alloc, tokens),
         "Attributes" => attributes.parse2(alloc, tokens),
         "PathOnly" => path_only.parse2(alloc, tokens),
@@ -51,8 +53,12 @@ fn parsed(alloc: Global, name: &str, tokens: TokenStream) -> Option<syn_parse::R
         "NameValue" => name_value.parse2(alloc, tokens),
         "Argument" => argument.parse2(alloc, tokens),
         "Literals" => literals.parse2(alloc, tokens),
+        "Expressions" => expressions.parse2(alloc, tokens),
         "Nested" => nested.parse2(alloc, tokens),
         "Items" => items.parse2(alloc, tokens),
+        "ItemsOfList" => items_of_list.parse2(alloc, tokens),
+        "Item" => one_item.parse2(alloc, tokens),
+        "MacroItems" => macro_items(alloc, tokens),
         "Visibility" => visibility.parse2(alloc, tokens),
         "Type" => ty.parse2(alloc, tokens),
         "Expr" => expr.parse2(alloc, tokens),
@@ -91,6 +97,16 @@ fn meta_word(meta: &Meta) -> &'static str {
 fn meta(input: ParseStream<'_, '_>) -> syn_parse::Result<String> {
     let meta: Meta = input.parse()?;
     written(input.allocator(), meta_word(&meta), &meta)
+}
+
+fn meta_list(input: ParseStream<'_, '_>) -> syn_parse::Result<String> {
+    let list: MetaList = input.parse()?;
+    written(input.allocator(), "list", &list)
+}
+
+fn meta_name_value(input: ParseStream<'_, '_>) -> syn_parse::Result<String> {
+    let pair: MetaNameValue = input.parse()?;
+    written(input.allocator(), "value", &pair)
 }
 
 fn attribute(input: ParseStream<'_, '_>) -> syn_parse::Result<String> {
@@ -148,6 +164,17 @@ fn literals(input: ParseStream<'_, '_>) -> syn_parse::Result<String> {
     written(alloc, "literals", &literals)
 }
 
+// Returns the expressions that are an attribute's arguments.
+fn expressions(input: ParseStream<'_, '_>) -> syn_parse::Result<String> {
+    let alloc = input.allocator();
+    let attribute: Attribute = input.parse()?;
+    let expressions: Punctuated<Expr, token::Comma> = attribute.parse_args_with(
+        alloc,
+        Punctuated::parse_terminated,
+    )?;
+    written(alloc, "expressions", &expressions)
+}
+
 // Returns the metas that are an attribute's arguments.
 fn nested(input: ParseStream<'_, '_>) -> syn_parse::Result<String> {
     let alloc = input.allocator();
@@ -161,36 +188,50 @@ fn nested(input: ParseStream<'_, '_>) -> syn_parse::Result<String> {
     Ok(text)
 }
 
-// Parses a literal, or a meta whose path may have any words.
-fn item(input: ParseStream<'_, '_>) -> syn_parse::Result<Either<Literal, Meta>> {
-    if input.peek::<Literal>() {
-        Ok(Either::Left(input.parse()?))
-    } else {
-        Ok(Either::Right(Meta::parse_nested(input)?))
-    }
+// Returns a literal, or a meta.
+fn item(alloc: Global, item: &NestedMeta) -> syn_parse::Result<String> {
+    let word = match item {
+        NestedMeta::Lit(_) => "literal",
+        NestedMeta::Meta(meta) => meta_word(meta),
+    };
+    written(alloc, word, item)
 }
 
-fn all_items(
-    input: ParseStream<'_, '_>,
-) -> syn_parse::Result<Punctuated<Either<Literal, Meta>, token::Comma>> {
-    Punctuated::parse_terminated_with(input, item)
+// Returns literals and metas.
+fn of_items(
+    alloc: Global,
+    read: &Punctuated<NestedMeta, token::Comma>,
+) -> syn_parse::Result<String> {
+    let mut text = format!(in alloc; "{} read", read.len())?;
+    for each in read.iter() {
+        text.push_str(" ")?;
+        text.push_str(item(alloc, each)?.as_str())?;
+    }
+    Ok(text)
 }
 
 // Returns the literals and metas that are an attribute's arguments.
 fn items(input: ParseStream<'_, '_>) -> syn_parse::Result<String> {
     let alloc = input.allocator();
     let attribute: Attribute = input.parse()?;
-    let items = attribute.parse_args_with(alloc, all_items)?;
-    let mut text = format!(in alloc; "{} read", items.len())?;
-    for item in items.iter() {
-        text.push_str(" ")?;
-        let shown = match item {
-            Either::Left(literal) => written(alloc, "literal", literal)?,
-            Either::Right(meta) => written(alloc, meta_word(meta), meta)?,
-        };
-        text.push_str(shown.as_str())?;
-    }
-    Ok(text)
+    of_items(alloc, &attribute.nested(alloc)?)
+}
+
+// Returns the literals and metas that are the contents of a meta's delimiters.
+fn items_of_list(input: ParseStream<'_, '_>) -> syn_parse::Result<String> {
+    let alloc = input.allocator();
+    let meta: Meta = input.parse()?;
+    of_items(alloc, &meta.require_list(alloc)?.nested(alloc)?)
+}
+
+// Returns one literal or meta.
+fn one_item(input: ParseStream<'_, '_>) -> syn_parse::Result<String> {
+    item(input.allocator(), &input.parse()?)
+}
+
+// Returns the literals and metas that are the arguments of an attribute macro.
+fn macro_items(alloc: Global, tokens: TokenStream) -> syn_parse::Result<String> {
+    of_items(alloc, &NestedMeta::parse_meta_list(alloc, tokens)?)
 }
 
 // Returns a visibility, and all after it.

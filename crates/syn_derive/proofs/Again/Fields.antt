@@ -6,7 +6,7 @@ use Rattle.tok_lexical.specs.declared.delimiter.Delimiter.TheVariants.{Brace, Pa
 use Rattle.tok_leaves.specs.declared.ident.Ident.{Ident}
 use Rattle.tok_leaves.specs.declared.span.DelimSpan.{DelimSpan}
 use Rattle.tok_core.specs.Forest.{Forest, concat, no_trees, tree}
-use Rattle.tok_types.specs.declared.punctuation.Punctuation.{Punctuation}
+use Rattle.syn_parse.specs.TokenNames.{Colon, Comma, Eq, Token}
 use Rattle.syn_punctuated.specs.Parts.{InGroup, IsIdentifier, Optional, Part, absent, identifier}
 use Rattle.syn_punctuated.specs.Parts.{in_group, present}
 use Rattle.syn_derive.specs.Again.{given}
@@ -53,7 +53,7 @@ type_alike : {f g h v : Forest} → IsRun IsType f v g → Alike g h → Alike f
 type_alike (run {trees} r) a = alike_after trees a
 
 -- fields
-abbrev pub named_onto : Option Ident → Option (Punctuation 6 1) → Forest → Forest
+abbrev pub named_onto : Option Ident → Option (Token Colon) → Forest → Forest
 named_onto None colon h = h
 named_onto (Some i) colon h = ident_onto i (sign_onto (given colon) h)
 
@@ -111,7 +111,7 @@ fields_again = record { again = λ i a. go i a } where
 
 -- `=` and an expression
 abbrev Value : Type 0
-Value = Option (Punctuation 13 1 × Forest)
+Value = Option (Token Eq × Forest)
 
 abbrev pub value_onto : Onto Value
 value_onto = optional_onto (λ d h. sign_onto d.0 (concat d.1 h))
@@ -148,7 +148,7 @@ variant_again = record { again = λ i a. go i a } where
       (is_inherited (not_reserved refl name)) name (fields_again.again w (value_alike d same))
       (value_again d same)
 
-abbrev pub variants_onto : Onto (List VariantForm × List (Punctuation 7 1))
+abbrev pub variants_onto : Onto (List VariantForm × List (Token Comma))
 variants_onto = turns_onto variant_onto sign_onto
 
 pub variants_again : Always (InGroup Brace AreEnumVariants) (group_onto Brace variants_onto)

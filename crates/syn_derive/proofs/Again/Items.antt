@@ -7,7 +7,7 @@ use Rattle.tok_lexical.specs.declared.delimiter.Delimiter.TheVariants.{Brace, Pa
 use Rattle.tok_leaves.specs.declared.span.DelimSpan.{DelimSpan}
 use Rattle.tok_core.specs.Forest.{Forest, concat, no_trees}
 use Rattle.tok_types.specs.Sees.{keyword_first, punctuation_first}
-use Rattle.tok_types.specs.declared.punctuation.Punctuation.{Punctuation}
+use Rattle.syn_parse.specs.TokenNames.{Gt, Semi, Token}
 use Rattle.syn_punctuated.proofs.Exactly.{not_next}
 use Rattle.syn_punctuated.specs.Parts.{InGroup, No, Part, absent}
 use Rattle.syn_punctuated.specs.Parts.{last, present, sign, word}
@@ -45,7 +45,7 @@ params_of written p =
 plain_params_again : Again (IsRun AreParams) (λ f h. concat f h)
 plain_params_again = run_again (λ m f g r a. tokens_alike 0 Params Operator m f g r a)
 
-gt_alike : {f g : Forest} {v : Punctuation 17 1} → IsGt f v g → (h : Forest)
+gt_alike : {f g : Forest} {v : Token Gt} → IsGt f v g → (h : Forest)
     → Alike f (sign_onto v h)
 gt_alike (sign last) h = alike_signs refl refl refl
 
@@ -102,7 +102,7 @@ group_closes onto i = record {
   not_where = not_next where_tells refl;
 }
 
-semi_closes : {f g : Forest} {v : Punctuation 36 1} → IsSemi f v g → (h : Forest)
+semi_closes : {f g : Forest} {v : Token Semi} → IsSemi f v g → (h : Forest)
     → Closes f (sign_onto v h)
 unfolding punctuation_first keyword_first
 semi_closes (sign last) h = record {
@@ -112,7 +112,7 @@ semi_closes (sign last) h = record {
 }
 
 -- what comes after the parameters of a struct, and after the name of an item
-abbrev pub struct_onto : (clause : Bool) → Option WhereForm → FieldsForm → Option (Punctuation 36 1)
+abbrev pub struct_onto : (clause : Bool) → Option WhereForm → FieldsForm → Option (Token Semi)
     → Forest → Forest
 struct_onto cs c (named x) semi h = clause_onto cs c (group_onto Brace list_onto x h)
 struct_onto cs c (unnamed x) semi h =

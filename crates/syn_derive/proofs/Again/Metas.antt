@@ -1,25 +1,29 @@
 -- Paths, what attributes hold, attributes and visibilities are parsed again as they are written.
 use Rattle.std.proofs.Common.{refl, List, Option, None, Some}
 use Rattle.tok_lexical.specs.declared.delimiter.Delimiter.TheVariants.{Brace, Bracket, Parenthesis}
-use Rattle.tok_core.specs.Forest.{Forest, Tree, concat, no_trees, tree}
+use Rattle.tok_leaves.specs.Leaves.{literal_of}
+use Rattle.tok_leaves.specs.declared.literal.Literal.{Literal}
+use Rattle.tok_core.specs.Forest.{Forest, Tree, concat, leaf, no_trees, tree}
 use Rattle.tok_types.specs.Sees.{punctuation_first}
-use Rattle.tok_types.specs.declared.keyword.Keyword.{Keyword}
-use Rattle.tok_types.specs.declared.punctuation.Punctuation.{Punctuation}
+use Rattle.syn_parse.specs.TokenNames.{Comma, Eq, In, PathSep, Pound, Pub, Token}
 use Rattle.syn_punctuated.proofs.Exactly.{not_next}
 use Rattle.syn_punctuated.specs.Parts.{No, Optional, Part, Separated, absent}
 use Rattle.syn_punctuated.specs.Parts.{and_others, any_ident, identifier, in_group, last, one}
 use Rattle.syn_punctuated.specs.Parts.{present, sign, word}
 use Rattle.syn_derive.specs.Attributes.{AttributeForm}
-use Rattle.syn_derive.specs.Grammar.{AreAttributes, IsAnySegment, IsAttr, IsAttrInput, IsAttribute}
-use Rattle.syn_derive.specs.Grammar.{IsComma, IsEq, IsNestedMeta, IsNestedPath, IsPath}
-use Rattle.syn_derive.specs.Grammar.{IsPathSep, IsPubToken, IsRestricted, IsRestriction}
-use Rattle.syn_derive.specs.Grammar.{IsRun, IsSegment, IsVisibility, any_word, attr, by_in, by_word}
-use Rattle.syn_derive.specs.Grammar.{equals, identifier_segment, in_braces, in_brackets}
-use Rattle.syn_derive.specs.Grammar.{in_parentheses}
-use Rattle.syn_derive.specs.Grammar.{in_path, is_inherited, is_public, is_restricted, meta_item}
+use Rattle.syn_derive.specs.Grammar.{AreAttributes, IsAnySegment, IsAssigned, IsAttr, IsAttrInput}
+use Rattle.syn_derive.specs.Grammar.{IsAttrList, IsAttrPath, IsAttrValue, IsAttribute, IsComma}
+use Rattle.syn_derive.specs.Grammar.{IsDelimTokenTree, IsEq, IsMetaItemInner, IsNestedMeta}
+use Rattle.syn_derive.specs.Grammar.{IsNestedPath, IsPath, IsPathSep, IsPubToken, IsRestricted}
+use Rattle.syn_derive.specs.Grammar.{IsRestriction, IsRun, IsSegment, IsVisibility, after_equals}
+use Rattle.syn_derive.specs.Grammar.{any_word, attr, attr_list, attr_path, attr_value, by_in}
+use Rattle.syn_derive.specs.Grammar.{by_word, equals, identifier_segment, in_braces, in_brackets}
+use Rattle.syn_derive.specs.Grammar.{in_delimiters, in_parentheses, in_path, inner_literal}
+use Rattle.syn_derive.specs.Grammar.{inner_meta, is_inherited, is_public, is_restricted, meta_item}
 use Rattle.syn_derive.specs.Grammar.{no_attr_input, outer_attribute, path_of_words, simple_path}
-use Rattle.syn_derive.specs.Grammar.{unsafe_attr, word_alone, word_segment}
+use Rattle.syn_derive.specs.Grammar.{unsafe_path, word_alone, word_segment}
 use Rattle.syn_derive.specs.Metas.{MetaForm, MetaInput, assigned, delimited, no_input}
+use Rattle.syn_derive.specs.NestedMetas.{NestedForm, of_literal, of_meta}
 use Rattle.syn_derive.specs.Paths.{PathForm}
 use Rattle.syn_derive.specs.RunGrammar.{IsExpr}
 use Rattle.syn_derive.specs.Visibilities.{VisibilityForm, inherited, public}
@@ -27,11 +31,12 @@ use Rattle.syn_derive.specs.Visibilities.{restricted}
 use Rattle.syn_derive.specs.declared.path.PathSegment.{PathSegment}
 use Rattle.syn_derive.specs.declared.run.Last.TheVariants.{Operator}
 use Rattle.syn_derive.specs.declared.run.Until.TheVariants.{Expr}
+use Rattle.syn_derive.proofs.Grammar.Attributes.{delimiters_tell}
 use Rattle.syn_derive.proofs.Grammar.Paths.{path_sep_tells}
 use Rattle.syn_derive.proofs.Again.Alike.{Alike, alike_groups, alike_same, alike_signs, alike_words}
 use Rattle.syn_derive.proofs.Again.Alike.{path_sep_alike, tokens_alike}
 use Rattle.syn_derive.proofs.Again.Parts.{Again, Always, AtEnd, Decided, Onto, all_onto, decided}
-use Rattle.syn_derive.proofs.Again.Parts.{decided_group, decided_sign, group_again, group_onto}
+use Rattle.syn_derive.proofs.Again.Parts.{decided_sign, group_again, group_onto}
 use Rattle.syn_derive.proofs.Again.Parts.{ident_onto, many_again, rest_again, run_again}
 use Rattle.syn_derive.proofs.Again.Parts.{separated_again, sign_again, sign_onto}
 use Rattle.syn_derive.proofs.Again.Parts.{to_end, turns_onto, word_again, word_onto}
@@ -60,7 +65,7 @@ any_segment_again = record { always = λ i h. go i h } where
 
 -- paths
 abbrev Segments : Type 0
-Segments = List PathSegment × List (Punctuation 28 2)
+Segments = List PathSegment × List (Token PathSep)
 
 abbrev segments_onto : Onto Segments
 segments_onto = turns_onto segment_onto sign_onto
@@ -79,7 +84,7 @@ module _ {Is : Part PathSegment} (e : Always Is segment_onto) where
   segments_again = separated_again path_sep_again path_sep_decided e
 
   -- segments do not begin with `::`
-  colon_again : {f g k : Forest} (h : Forest) {colon : Option (Punctuation 28 2)} {s : Segments}
+  colon_again : {f g k : Forest} (h : Forest) {colon : Option (Token PathSep)} {s : Segments}
       → Optional IsPathSep IsPathSep f colon g → Separated Is IsPathSep g s k
       → Optional IsPathSep IsPathSep (optional_onto sign_onto colon (segments_onto s h)) colon
       (segments_onto s h)
@@ -107,9 +112,9 @@ pub eq_again : Always IsEq sign_onto
 eq_again = sign_again 13 1 refl
 
 pub eq_decided : Decided IsEq
-eq_decided = decided_sign 13 61 refl refl
+eq_decided = decided_sign Eq 61 refl refl
 
-pub eq_alike : {f g : Forest} {v : Punctuation 13 1} → IsEq f v g → (h : Forest)
+pub eq_alike : {f g : Forest} {v : Token Eq} → IsEq f v g → (h : Forest)
     → Alike f (sign_onto v h)
 eq_alike (sign last) h = alike_signs refl refl refl
 
@@ -121,35 +126,78 @@ args_onto no_input h = h
 args_onto (delimited d span f) h = group_onto d (λ f h. f) (span, f) h
 args_onto (assigned eq value) h = sign_onto eq (concat value h)
 
+delimiters_again : Always IsDelimTokenTree args_onto
+delimiters_again = record { always = λ i h. go i h } where
+  go : {f g : Forest} {v : MetaInput} → IsDelimTokenTree f v g → (h : Forest)
+      → IsDelimTokenTree (args_onto v h) v h
+  go (in_parentheses i) h = in_parentheses ((group_again Parenthesis rest_again).always i h)
+  go (in_brackets i) h = in_brackets ((group_again Bracket rest_again).always i h)
+  go (in_braces i) h = in_braces ((group_again Brace rest_again).always i h)
+
+delimiters_decided : Decided IsDelimTokenTree
+delimiters_decided =
+    decided delimiters_tell
+    (λ f g a. simp (a.groups Parenthesis, a.groups Bracket, a.groups Brace) refl)
+
+assigned_again : Again IsAssigned args_onto
+assigned_again = record { again = λ i a. go i a } where
+  go : {f g h : Forest} {v : MetaInput} → IsAssigned f v g → Alike g h
+      → IsAssigned (args_onto v h) v h
+  go (equals e v) a = equals (eq_again.always e _) (expr_again.again v a)
+
 args_again : Again IsAttrInput args_onto
 args_again = record { again = λ i a. go i a } where
   go : {f g h : Forest} {v : MetaInput} → IsAttrInput f v g → Alike g h
       → IsAttrInput (args_onto v h) v h
-  go (in_parentheses i) a = in_parentheses ((group_again Parenthesis rest_again).always i _)
-  go (in_brackets i) a = in_brackets ((group_again Bracket rest_again).always i _)
-  go (in_braces i) a = in_braces ((group_again Brace rest_again).always i _)
-  go (equals e v) a = equals (eq_again.always e _) (expr_again.again v a)
-  go (no_attr_input e p b c) a =
-      no_attr_input (eq_decided.none a e) ((decided_group Parenthesis).none a p)
-      ((decided_group Bracket).none a b) ((decided_group Brace).none a c)
+  go (in_delimiters d) a = in_delimiters (delimiters_again.always d _)
+  go (after_equals v) a = after_equals (assigned_again.again v a)
+  go (no_attr_input e d) a = no_attr_input (eq_decided.none a e) (delimiters_decided.none a d)
+
+delimiters_alike : {f g : Forest} {v : MetaInput} → IsDelimTokenTree f v g → (h : Forest)
+    → Alike f (args_onto v h)
+delimiters_alike (in_parentheses (in_group i)) h = alike_groups
+delimiters_alike (in_brackets (in_group i)) h = alike_groups
+delimiters_alike (in_braces (in_group i)) h = alike_groups
+
+assigned_alike : {f g : Forest} {v : MetaInput} → IsAssigned f v g → (h : Forest)
+    → Alike f (args_onto v h)
+assigned_alike (equals e v) h = eq_alike e _
 
 args_alike : {f g h : Forest} {v : MetaInput} → IsAttrInput f v g → Alike g h
     → Alike f (args_onto v h)
-args_alike (in_parentheses (in_group i)) a = alike_groups
-args_alike (in_brackets (in_group i)) a = alike_groups
-args_alike (in_braces (in_group i)) a = alike_groups
-args_alike (equals e v) a = eq_alike e _
-args_alike (no_attr_input e p b c) a = a
+args_alike (in_delimiters d) a = delimiters_alike d _
+args_alike (after_equals v) a = assigned_alike v _
+args_alike (no_attr_input e d) a = a
 
 -- what an attribute holds, and attributes
 abbrev pub meta_onto : Onto MetaForm
 meta_onto m h = path_onto m.0 (args_onto m.1 h)
 
+attr_path_again : Again IsAttrPath path_onto
+attr_path_again = record { again = λ i a. go i a } where
+  go : {f g h : Forest} {v : PathForm} → IsAttrPath f v g → Alike g h
+      → IsAttrPath (path_onto v h) v h
+  go (attr_path p) a = attr_path (path_again.again p a)
+  go unsafe_path a = unsafe_path
+
 pub meta_again : Again IsAttr meta_onto
 meta_again = record { again = λ i a. go i a } where
   go : {f g h : Forest} {v : MetaForm} → IsAttr f v g → Alike g h → IsAttr (meta_onto v h) v h
-  go (attr p i) a = attr (path_again.again p (args_alike i a)) (args_again.again i a)
-  go (unsafe_attr i) a = unsafe_attr (args_again.again i a)
+  go (attr p i) a = attr (attr_path_again.again p (args_alike i a)) (args_again.again i a)
+
+pub meta_list_again : Again IsAttrList meta_onto
+meta_list_again = record { again = λ i a. go i a } where
+  go : {f g h : Forest} {v : MetaForm} → IsAttrList f v g → Alike g h
+      → IsAttrList (meta_onto v h) v h
+  go (attr_list p d) a =
+      attr_list (attr_path_again.again p (delimiters_alike d _)) (delimiters_again.always d _)
+
+pub name_value_again : Again IsAttrValue meta_onto
+name_value_again = record { again = λ i a. go i a } where
+  go : {f g h : Forest} {v : MetaForm} → IsAttrValue f v g → Alike g h
+      → IsAttrValue (meta_onto v h) v h
+  go (attr_value p v) a =
+      attr_value (attr_path_again.again p (assigned_alike v _)) (assigned_again.again v a)
 
 pub nested_meta_again : Again IsNestedMeta meta_onto
 nested_meta_again = record { again = λ i a. go i a } where
@@ -158,10 +206,24 @@ nested_meta_again = record { again = λ i a. go i a } where
   go (meta_item p i) a =
       meta_item (nested_path_again.again p (args_alike i a)) (args_again.again i a)
 
+abbrev pub literal_onto : Onto Literal
+literal_onto l h = tree (leaf (literal_of l)) h
+
+abbrev pub item_onto : Onto NestedForm
+item_onto (of_literal l) h = literal_onto l h
+item_onto (of_meta m) h = meta_onto m h
+
+pub meta_item_again : Again IsMetaItemInner item_onto
+meta_item_again = record { again = λ i a. go i a } where
+  go : {f g h : Forest} {v : NestedForm} → IsMetaItemInner f v g → Alike g h
+      → IsMetaItemInner (item_onto v h) v h
+  go inner_literal a = inner_literal
+  go (inner_meta m) a = inner_meta (nested_meta_again.again m a)
+
 pub comma_again : Always IsComma sign_onto
 comma_again = sign_again 7 1 refl
 
-pub comma_alike : (f g h : Forest) (v : Punctuation 7 1) → IsComma f v g → Alike f (sign_onto v h)
+pub comma_alike : (f g h : Forest) (v : Token Comma) → IsComma f v g → Alike f (sign_onto v h)
 comma_alike _ _ h _ (sign last) = alike_signs refl refl refl
 
 abbrev pub attribute_onto : Onto AttributeForm
@@ -176,11 +238,11 @@ attribute_again = record { always = λ i h. go i h } where
       ((group_again Bracket (to_end meta_again)).always m h)
 
 pub attributes_again : Again AreAttributes (all_onto attribute_onto)
-attributes_again = many_again (decided_sign 33 35 refl refl) attribute_again
+attributes_again = many_again (decided_sign Pound 35 refl refl) attribute_again
 
 -- visibilities
 abbrev Restriction : Type 0
-Restriction = Option (Keyword 22) × PathForm
+Restriction = Option (Token In) × PathForm
 
 abbrev restriction_onto : Onto Restriction
 restriction_onto r h = optional_onto word_onto r.0 (path_onto r.1 h)
@@ -208,7 +270,7 @@ restricted_first all_same r = r
 restricted_first first_same (by_word w) = by_word w
 restricted_first first_same (by_in i) = by_in i
 
-same_word : {t : Tree} {f g h : Forest} {v : Keyword 32} → IsPubToken (tree t g) v h
+same_word : {t : Tree} {f g h : Forest} {v : Token Pub} → IsPubToken (tree t g) v h
     → IsPubToken (tree t f) v f
 same_word word = word
 

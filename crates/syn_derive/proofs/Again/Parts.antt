@@ -15,6 +15,8 @@ use Rattle.tok_types.specs.Printed.{joint_puncts}
 use Rattle.tok_types.specs.Texts.{keyword_text, punctuation_word}
 use Rattle.tok_types.specs.declared.keyword.Keyword.{Keyword}
 use Rattle.tok_types.specs.declared.punctuation.Punctuation.{Punctuation}
+use Rattle.syn_parse.specs.TokenNames.{Name}
+use Rattle.syn_parse.specs.Tokens.{punctuation}
 use Rattle.syn_parse.specs.TreesAhead.{Ahead, only_trees}
 use Rattle.syn_punctuated.proofs.Exactly.{Tells, not_next, unseen}
 use Rattle.syn_punctuated.proofs.ExactTokens.{are_own, group_tells, sign_tells}
@@ -53,9 +55,10 @@ pub decided : {A : Type 0} {First : Part A} {test : Ahead → Bool} → Tells Fi
     → ((f g : Forest) → Alike f g → test (only_trees f) ≡ test (only_trees g)) → Decided First
 decided t same = record { none = λ {f} {g} a n. not_next t (sym (same f g a) ∙ unseen t n) }
 
-pub decided_sign : (k c : ℕ) → are_own (punctuation_word k 1) ≡ true → punctuation_word k 1 ≡ c ∷ []
+pub decided_sign : {k : ℕ} → Name (Punctuation k 1) (punctuation k 1) → (c : ℕ)
+    → are_own (punctuation_word k 1) ≡ true → punctuation_word k 1 ≡ c ∷ []
     → Decided (IsSign {k = k} {n = 1} (punctuation_word k 1))
-decided_sign k c own e = decided (sign_tells k 1 own) (λ f g a. sign_alike k c e a)
+decided_sign {k} name c own e = decided (sign_tells name own) (λ f g a. sign_alike k c e a)
 
 pub decided_group : (d : Delimiter) → Decided (IsGroup d)
 decided_group d = decided (group_tells d) (λ f g a. a.groups d)

@@ -15,12 +15,16 @@ use Rattle.syn_derive.specs.Again.{ParsedAgain, ParsedAnywhere, again_clause, ag
 use Rattle.syn_derive.specs.Attributes.{attribute_form, attribute_trees}
 use Rattle.syn_derive.specs.Fields.{field_form, fields_form, variant_form}
 use Rattle.syn_derive.specs.Generics.{where_form}
-use Rattle.syn_derive.specs.Grammar.{AreVariantFields, IsAttr, IsAttribute, IsDeriveInput}
-use Rattle.syn_derive.specs.Grammar.{IsEnumVariant, IsNestedMeta, IsPath, IsStructField}
+use Rattle.syn_derive.specs.Grammar.{AreVariantFields, IsAttr, IsAttrList, IsAttrValue}
+use Rattle.syn_derive.specs.Grammar.{IsAttribute, IsDeriveInput}
+use Rattle.syn_derive.specs.Grammar.{IsEnumVariant, IsMetaItemInner, IsNestedMeta, IsPath}
+use Rattle.syn_derive.specs.Grammar.{IsStructField}
 use Rattle.syn_derive.specs.Grammar.{IsRun, IsTupleField, run}
 use Rattle.syn_derive.specs.Grammar.{IsVisibility, ParsesInput}
 use Rattle.syn_derive.specs.Inputs.{input_form}
-use Rattle.syn_derive.specs.Metas.{meta_form, meta_trees}
+use Rattle.syn_derive.specs.Metas.{meta_form, meta_list_form, meta_list_trees, meta_trees}
+use Rattle.syn_derive.specs.Metas.{name_value_form, name_value_trees}
+use Rattle.syn_derive.specs.NestedMetas.{nested_form, nested_trees}
 use Rattle.syn_derive.specs.Paths.{path_form, path_trees}
 use Rattle.syn_derive.specs.Visibilities.{visibility_form, visibility_trees}
 use Rattle.syn_derive.specs.Written.{field_trees, fields_trees, input_trees, variant_trees}
@@ -31,13 +35,16 @@ use Rattle.syn_derive.proofs.Again.Fields.{field_onto, fields_again, fields_onto
 use Rattle.syn_derive.proofs.Again.Fields.{struct_field_again}
 use Rattle.syn_derive.proofs.Again.Fields.{tuple_field_again, variant_again, variant_onto}
 use Rattle.syn_derive.proofs.Again.Items.{clause_of, input_again}
-use Rattle.syn_derive.proofs.Again.Metas.{all_same, attribute_again, meta_again}
-use Rattle.syn_derive.proofs.Again.Metas.{meta_onto, nested_meta_again, path_again, path_onto}
+use Rattle.syn_derive.proofs.Again.Metas.{all_same, attribute_again, item_onto, meta_again}
+use Rattle.syn_derive.proofs.Again.Metas.{meta_item_again, meta_list_again, meta_onto}
+use Rattle.syn_derive.proofs.Again.Metas.{name_value_again, nested_meta_again, path_again}
+use Rattle.syn_derive.proofs.Again.Metas.{path_onto}
 use Rattle.syn_derive.proofs.Again.Metas.{visibility_again}
 use Rattle.syn_derive.proofs.Again.Metas.{visibility_onto}
 use Rattle.syn_derive.proofs.Again.Parts.{Again, Onto}
+use Rattle.syn_derive.proofs.Again.Written as written
 use Rattle.syn_derive.proofs.Again.Written.{Puts, all_fields, attribute, field, has_predicates}
-use Rattle.syn_derive.proofs.Again.Written.{input, metas, path, variant, visibility}
+use Rattle.syn_derive.proofs.Again.Written.{input, items, metas, path, variant, visibility}
 use Rattle.syn_derive.proofs.Grammar.Items.{derive_input_exactly}
 
 -- from what is written to what is parsed
@@ -61,8 +68,17 @@ visibilities =
 pub attributes_hold : ParsedAgain IsAttr meta_form meta_trees
 attributes_hold = parsed_again meta_form meta_onto metas meta_again
 
+pub meta_lists : ParsedAgain IsAttrList meta_list_form meta_list_trees
+meta_lists = parsed_again meta_list_form meta_onto written.meta_lists meta_list_again
+
+pub name_values : ParsedAgain IsAttrValue name_value_form name_value_trees
+name_values = parsed_again name_value_form meta_onto written.name_values name_value_again
+
 pub nested_metas : ParsedAgain IsNestedMeta meta_form meta_trees
 nested_metas = parsed_again meta_form meta_onto metas nested_meta_again
+
+pub meta_items : ParsedAgain IsMetaItemInner nested_form nested_trees
+meta_items = parsed_again nested_form item_onto items meta_item_again
 
 pub attributes : ParsedAnywhere IsAttribute attribute_form attribute_form attribute_trees
 attributes f g h v i =

@@ -19,6 +19,7 @@ use Rattle.tok_types.specs.Printed as printed
 use Rattle.tok_types.specs.Texts.{keyword_text, punctuation_word}
 use Rattle.tok_types.specs.declared.keyword.Keyword.{Keyword}
 use Rattle.tok_types.specs.declared.punctuation.Punctuation.{Punctuation}
+use Rattle.syn_parse.specs.TokenNames.{Colon, Comma, Eq, Token}
 use Rattle.syn_punctuated.specs.Lists.{separators_of, values_of}
 use Rattle.syn_punctuated.specs.Printed.{by_turns}
 use Rattle.syn_punctuated.specs.TakeLists.{list_form}
@@ -29,7 +30,9 @@ use Rattle.syn_derive.specs.Attributes.{attributes_trees}
 use Rattle.syn_derive.specs.Fields.{field_form, fields_form, list_of, variant_form}
 use Rattle.syn_derive.specs.Generics.{params_form, where_form}
 use Rattle.syn_derive.specs.Inputs.{data_form, input_form}
-use Rattle.syn_derive.specs.Metas.{delimited_by, delimited_trees, meta_form, meta_trees}
+use Rattle.syn_derive.specs.Metas.{delimited_by, delimited_trees, meta_form, meta_list_form}
+use Rattle.syn_derive.specs.Metas.{meta_list_trees, meta_trees, name_value_form, name_value_trees}
+use Rattle.syn_derive.specs.NestedMetas.{nested_form, nested_trees}
 use Rattle.syn_derive.specs.Paths.{path_form, path_trees, segment_trees}
 use Rattle.syn_derive.specs.Printing.{all_trees, keyword_trees, or_default_trees}
 use Rattle.syn_derive.specs.Printing.{sign_trees}
@@ -52,6 +55,10 @@ use Rattle.syn_derive.specs.declared.meta.MacroDelimiter.{MacroDelimiter}
 use Rattle.syn_derive.specs.declared.meta.MacroDelimiter.TheVariants as by
 use Rattle.syn_derive.specs.declared.meta.Meta.{Meta}
 use Rattle.syn_derive.specs.declared.meta.Meta.TheVariants as meta
+use Rattle.syn_derive.specs.declared.meta.MetaList.{MetaList}
+use Rattle.syn_derive.specs.declared.meta.MetaNameValue.{MetaNameValue}
+use Rattle.syn_derive.specs.declared.nested.NestedMeta.{NestedMeta}
+use Rattle.syn_derive.specs.declared.nested.NestedMeta.TheVariants as nested
 use Rattle.syn_derive.specs.declared.path.Path.{Path}
 use Rattle.syn_derive.specs.declared.path.PathSegment.{PathSegment}
 use Rattle.syn_derive.specs.declared.ty.Expr.{Expr}
@@ -62,8 +69,8 @@ use Rattle.syn_derive.proofs.Again.Fields.{field_onto, fields_onto, list_onto, n
 use Rattle.syn_derive.proofs.Again.Fields.{value_onto, variant_onto, variants_onto}
 use Rattle.syn_derive.proofs.Again.Items.{body_onto, clause_onto, data_onto, input_onto}
 use Rattle.syn_derive.proofs.Again.Items.{params_onto, struct_onto}
-use Rattle.syn_derive.proofs.Again.Metas.{args_onto, attribute_onto, meta_onto, optional_onto}
-use Rattle.syn_derive.proofs.Again.Metas.{path_onto}
+use Rattle.syn_derive.proofs.Again.Metas.{args_onto, attribute_onto, item_onto, meta_onto}
+use Rattle.syn_derive.proofs.Again.Metas.{optional_onto, path_onto}
 use Rattle.syn_derive.proofs.Again.Metas.{segment_onto, visibility_onto}
 use Rattle.syn_derive.proofs.Again.Parts.{Onto, all_onto, ident_onto, in_turn}
 use Rattle.syn_derive.proofs.Again.Parts.{sign_onto, word_onto}
@@ -173,10 +180,20 @@ arguments (by.Paren t) f = record { puts = λ h. refl }
 arguments (by.Brace t) f = record { puts = λ h. refl }
 arguments (by.Bracket t) f = record { puts = λ h. refl }
 
+pub meta_lists : (l : MetaList) → Puts (meta_list_trees l) (meta_onto (meta_list_form l))
+meta_lists l = both (path l.path) (arguments l.delimiter l.tokens)
+
+pub name_values : (v : MetaNameValue) → Puts (name_value_trees v) (meta_onto (name_value_form v))
+name_values v = both (path v.path) (both (signs v.eq_token) (tokens v.value.tokens))
+
 pub metas : (m : Meta) → Puts (meta_trees m) (meta_onto (meta_form m))
 metas (meta.Path p) = path p
-metas (meta.List l) = both (path l.path) (arguments l.delimiter l.tokens)
-metas (meta.NameValue v) = both (path v.path) (both (signs v.eq_token) (tokens v.value.tokens))
+metas (meta.List l) = meta_lists l
+metas (meta.NameValue v) = name_values v
+
+pub items : (n : NestedMeta) → Puts (nested_trees n) (item_onto (nested_form n))
+items (nested.Meta m) = metas m
+items (nested.Lit l) = record { puts = λ h. refl }
 
 pub attribute : (a : Attribute) → Puts (attribute_trees a) (attribute_onto (attribute_form a))
 attribute a = both (signs a.pound_token) (in_brackets _ (metas a.meta))
@@ -192,7 +209,7 @@ visibility (Restricted v) =
 visibility Inherited = none
 
 -- fields
-named : (name : Option Ident) (colon : Option (Punctuation 6 1)) → Puts (name_trees name colon)
+named : (name : Option Ident) (colon : Option (Token Colon)) → Puts (name_trees name colon)
     (named_onto name colon)
 named None colon = none
 named (Some i) colon = both (idents i) (or_default colon)
@@ -202,7 +219,7 @@ field f =
     both (both (attributes f.attrs) (visibility f.vis))
     (both (named f.ident f.colon_token) (tokens f.ty.tokens))
 
-list : (l : Punctuated Field (Punctuation 7 1)) → Puts (list_trees l) (list_onto (list_of l))
+list : (l : Punctuated Field (Token Comma)) → Puts (list_trees l) (list_onto (list_of l))
 list l = turns field_onto field (values_of l) (separators_of l)
 
 pub all_fields : (f : Fields) → Puts (fields_trees f) (fields_onto (fields_form f))
@@ -211,7 +228,7 @@ all_fields (fields.Unnamed f) = in_parentheses _ (list f.unnamed)
 all_fields fields.Unit = none
 
 -- variants
-value : (d : Option (Punctuation 13 1 × Expr)) → Puts (discriminant_trees d)
+value : (d : Option (Token Eq × Expr)) → Puts (discriminant_trees d)
     (value_onto (option_map (λ d. (d.0, erase d.1.tokens)) d))
 value None = none
 value (Some d) = both (signs d.0) (tokens d.1.tokens)
@@ -221,7 +238,7 @@ variant v =
     both (both (attributes v.attrs) (idents v.ident))
     (both (all_fields v.fields) (value v.discriminant))
 
-variants : (l : Punctuated Variant (Punctuation 7 1))
+variants : (l : Punctuated Variant (Token Comma))
     → Puts (by_turns variant_trees sign_trees (values_of l) (separators_of l))
     (variants_onto (list_form variant_form (λ p. p) l))
 variants l = turns variant_onto variant (values_of l) (separators_of l)

@@ -5,10 +5,10 @@ use Rattle.tok_leaves.specs.declared.span.DelimSpan.{DelimSpan}
 use Rattle.tok_core.specs.Forest.{Forest}
 use Rattle.tok_types.specs.Sees.{group_first}
 use Rattle.syn_parse.specs.After.{take_after}
-use Rattle.syn_parse.specs.Lighter.{lowers_punctuation}
+use Rattle.syn_parse.specs.Lighter.{lowers_token}
 use Rattle.syn_parse.specs.Sequences.{lowers_then}
 use Rattle.syn_parse.specs.Takings.{Lowers}
-use Rattle.syn_parse.specs.TokenNames.{sees_eq, take_colon, take_comma, take_eq}
+use Rattle.syn_parse.specs.TokenNames.{Colon, Comma, Eq, sees, take}
 use Rattle.syn_parse.specs.Tokens.{sees_group}
 use Rattle.syn_parse.specs.TreesAhead.{only_trees}
 use Rattle.syn_punctuated.specs.TakeLists.{take_terminated}
@@ -31,8 +31,8 @@ use Rattle.syn_derive.proofs.Grammar.Attributes.{attributes, comma_sign, eq_sign
 use Rattle.syn_derive.proofs.Grammar.Runs.{expression, lowers_type, type_run}
 use Rattle.syn_derive.proofs.Grammar.Visibilities.{visibility}
 
-colon_sign : Exactly IsColon take_colon
-colon_sign = sign_exactly 6 1 refl
+colon_sign : Exactly IsColon (take Colon)
+colon_sign = sign_exactly Colon refl
 
 pub named_field : Exactly IsStructField take_named_field
 unfolding take_named_field
@@ -70,13 +70,13 @@ lowers_unnamed_field = search (weighing_parts, lowers_then, lowers_type) depth 6
 named : Exactly AreStructFields take_named
 unfolding take_named
 named =
-    terminated_exactly named_field comma_sign (lowers_punctuation 7 1) lightens_named_field
+    terminated_exactly named_field comma_sign (lowers_token _) lightens_named_field
     (begins_left named_field lowers_named_field)
 
 unnamed : Exactly AreTupleFields take_unnamed
 unfolding take_unnamed
 unnamed =
-    terminated_exactly unnamed_field comma_sign (lowers_punctuation 7 1) lightens_unnamed_field
+    terminated_exactly unnamed_field comma_sign (lowers_token _) lightens_unnamed_field
     (begins_left unnamed_field lowers_unnamed_field)
 
 pub named_fields : Exactly (InGroup Brace AreStructFields) take_named_fields
@@ -120,13 +120,13 @@ variant_fields =
       go _ _ _ (no_variant_fields p b) =
           simp (unseen (group_tells Parenthesis) p, unseen (group_tells Brace) b) refl
 
-value_after : Exactly (Optional IsEq IsDiscriminant) (take_after sees_eq take_eq take_expr)
+value_after : Exactly (Optional IsEq IsDiscriminant) (take_after (sees Eq) (take Eq) take_expr)
 unfolding take_after
 value_after =
-    exactly (either sees_eq
+    exactly (either (sees Eq)
     (then eq_sign (λ e. then expression (λ v. ends (λ _ _ v _ e t. present (discriminant e v)))))
     (ends (λ _ t. absent (not_next eq_tells t)))) go where
-      go : Written (Optional IsEq IsDiscriminant) (take_after sees_eq take_eq take_expr)
+      go : Written (Optional IsEq IsDiscriminant) (take_after (sees Eq) (take Eq) take_expr)
       go _ _ _ (present (discriminant e v)) =
           simp (eq_tells.seen e, takes eq_sign e, takes expression v) refl
       go _ _ _ (absent n) = simp (unseen eq_tells n) refl
@@ -152,7 +152,7 @@ lowers_variant : Lowers take_variant
 unfolding take_variant
 lowers_variant = search (weighing_parts, lowers_then, lightens_fields) depth 60
 
-pub variants : Exactly AreEnumVariants (take_terminated take_variant take_comma)
+pub variants : Exactly AreEnumVariants (take_terminated take_variant (take Comma))
 variants =
-    terminated_exactly variant comma_sign (lowers_punctuation 7 1) lightens_variant
+    terminated_exactly variant comma_sign (lowers_token _) lightens_variant
     (begins_left variant lowers_variant)

@@ -6,13 +6,10 @@ use Rattle.tok_leaves.specs.declared.ident.Ident.{Ident}
 use Rattle.tok_leaves.specs.declared.span.Span.{Span}
 use Rattle.tok_core.specs.Forest.{Forest, no_trees}
 use Rattle.tok_core.specs.Erase.{erase}
-use Rattle.tok_types.specs.declared.keyword.Keyword.{Keyword}
 use Rattle.tok_types.specs.Sees.{group_first, keyword_first}
-use Rattle.tok_types.specs.declared.punctuation.Punctuation.{Punctuation}
 use Rattle.syn_parse.specs.Takes.{TakesAll, take_group}
-use Rattle.syn_parse.specs.TokenNames.{sees_enum, sees_lt, sees_struct, sees_union, sees_where}
-use Rattle.syn_parse.specs.TokenNames.{take_comma, take_enum, take_gt, take_lt, take_semi}
-use Rattle.syn_parse.specs.TokenNames.{take_struct, take_union, take_where}
+use Rattle.syn_parse.specs.TokenNames.{Comma, Enum, Gt, Lt, Semi, Struct, Token, Union, Where, sees}
+use Rattle.syn_parse.specs.TokenNames.{take}
 use Rattle.syn_parse.specs.Tokens.{sees_group}
 use Rattle.syn_parse.specs.TreesAhead.{only_trees}
 use Rattle.syn_parse.specs.declared.fault.Fault.{Fault}
@@ -45,22 +42,22 @@ use Rattle.syn_derive.proofs.Grammar.Fields.{unnamed_fields, variants}
 use Rattle.syn_derive.proofs.Grammar.Runs.{plain_params, predicates}
 use Rattle.syn_derive.proofs.Grammar.Visibilities.{visibility}
 
-lt_sign : Exactly IsLt take_lt
-lt_sign = sign_exactly 20 1 refl
+lt_sign : Exactly IsLt (take Lt)
+lt_sign = sign_exactly Lt refl
 
-pub lt_tells : Tells IsLt sees_lt
-lt_tells = sign_tells 20 1 refl
+pub lt_tells : Tells IsLt (sees Lt)
+lt_tells = sign_tells Lt refl
 
-gt_sign : Exactly IsGt take_gt
-gt_sign = sign_exactly 17 1 refl
+gt_sign : Exactly IsGt (take Gt)
+gt_sign = sign_exactly Gt refl
 
-semi : Exactly IsSemi take_semi
-semi = sign_exactly 36 1 refl
+semi : Exactly IsSemi (take Semi)
+semi = sign_exactly Semi refl
 
 pub params : Exactly AreGenericParams take_params
 unfolding take_params
 params =
-    exactly (either sees_lt (then lt_sign (λ l. then plain_params (λ p. then gt_sign
+    exactly (either (sees Lt) (then lt_sign (λ l. then plain_params (λ p. then gt_sign
     (λ g. ends (λ _ _ g _ p _ l t. generic_params l p g)))))
     (ends (λ _ t. no_params (not_next lt_tells t)))) go where
       go : Written AreGenericParams take_params
@@ -68,11 +65,11 @@ params =
           simp (lt_tells.seen l, takes lt_sign l, takes plain_params p, takes gt_sign g) refl
       go _ _ _ (no_params n) = simp (unseen lt_tells n) refl
 
-pub where_tells : Tells IsWhereToken sees_where
-where_tells = word_tells 51 _ _ refl
+pub where_tells : Tells IsWhereToken (sees Where)
+where_tells = word_tells Where _ _ refl
 
-where_word : Exactly IsWhereToken take_where
-where_word = word_exactly 51 _ _ refl
+where_word : Exactly IsWhereToken (take Where)
+where_word = word_exactly Where _ _ refl
 
 pub clause_of : Exactly IsWhereClause take_where_clause
 unfolding take_where_clause
@@ -83,7 +80,7 @@ clause_of =
       go _ _ _ (where_clause w p) = simp (takes where_word w, takes predicates p) refl
 
 where_first : {f g : Forest} {v : WhereForm} → IsWhereClause f v g
-    → sees_where (only_trees f) ≡ true
+    → sees Where (only_trees f) ≡ true
 where_first (where_clause w p) = where_tells.seen w
 
 clause : Exactly IsClause take_clause
@@ -96,28 +93,28 @@ unfolding group_first
 before_clause (absent n) e = e
 before_clause (present (where_clause word p)) e = refl
 
-semi_seen : {f g : Forest} {v : Punctuation 36 1} → IsSemi f v g
+semi_seen : {f g : Forest} {v : Token Semi} → IsSemi f v g
     → (sees_group Parenthesis (only_trees f) ≡ false) × (sees_group Brace (only_trees f) ≡ false)
 unfolding group_first
 semi_seen (sign last) = (refl, refl)
 
-struct_word : Exactly IsStructToken take_struct
-struct_word = word_exactly 40 _ _ refl
+struct_word : Exactly IsStructToken (take Struct)
+struct_word = word_exactly Struct _ _ refl
 
-enum_word : Exactly IsEnumToken take_enum
-enum_word = word_exactly 15 _ _ refl
+enum_word : Exactly IsEnumToken (take Enum)
+enum_word = word_exactly Enum _ _ refl
 
-union_word : Exactly IsUnionToken take_union
-union_word = word_exactly 46 _ _ refl
+union_word : Exactly IsUnionToken (take Union)
+union_word = word_exactly Union _ _ refl
 
 in_braces : Exactly (InGroup Brace AreEnumVariants)
-    (take_group Brace (take_terminated take_variant take_comma))
+    (take_group Brace (take_terminated take_variant (take Comma)))
 in_braces = group_exactly Brace variants
 
 -- a body completes a struct
 abbrev CompletesStruct : Part BodyForm
 CompletesStruct i b k =
-    (f g h : Forest) (word : Keyword 40) (name : Ident) (params : ParamsForm)
+    (f g h : Forest) (word : Token Struct) (name : Ident) (params : ParamsForm)
     → IsStructToken f word g → IsIdentifier g name h → AreGenericParams h params i
     → IsStruct f (name, params, b.0, of_struct word b.1 b.2) k
 
@@ -202,29 +199,29 @@ the_union =
           ) refl
 
 -- what each begins with
-struct_seen : {f g : Forest} {v : ItemForm} → IsStruct f v g → sees_struct (only_trees f) ≡ true
+struct_seen : {f g : Forest} {v : ItemForm} → IsStruct f v g → sees Struct (only_trees f) ≡ true
 unfolding keyword_first
 struct_seen (struct_struct word n p c i) = refl
 struct_seen (unit_struct word n p c s) = refl
 struct_seen (tuple_struct word n p i c s) = refl
 
 enum_seen : {f g : Forest} {v : ItemForm} → IsEnumeration f v g
-    → (sees_struct (only_trees f) ≡ false) × (sees_enum (only_trees f) ≡ true)
+    → (sees Struct (only_trees f) ≡ false) × (sees Enum (only_trees f) ≡ true)
 unfolding keyword_first
 enum_seen (enumeration word n p c v) = (refl, refl)
 
 union_seen : {f g : Forest} {v : ItemForm} → IsUnion f v g
-    → (sees_struct (only_trees f) ≡ false) × (sees_enum (only_trees f) ≡ false)
-    × (sees_union (only_trees f) ≡ true)
+    → (sees Struct (only_trees f) ≡ false) × (sees Enum (only_trees f) ≡ false)
+    × (sees Union (only_trees f) ≡ true)
 unfolding keyword_first
 union_seen (a_union word n p c i) = (refl, refl, refl)
 
 item : Exactly IsItem take_item
 unfolding take_item
 item =
-    exactly (either sees_struct (so a_struct (λ _ _ _ i t. struct_item i))
-    (either sees_enum (so a_enum (λ _ _ _ i t s. enum_item i))
-    (either sees_union (so the_union (λ _ _ _ i t e s. union_item i)) (refused _)))) go where
+    exactly (either (sees Struct) (so a_struct (λ _ _ _ i t. struct_item i))
+    (either (sees Enum) (so a_enum (λ _ _ _ i t s. enum_item i))
+    (either (sees Union) (so the_union (λ _ _ _ i t e s. union_item i)) (refused _)))) go where
       go : Written IsItem take_item
       go _ _ _ (struct_item i) = simp (struct_seen i, takes a_struct i) refl
       go _ _ _ (enum_item i) = let s = enum_seen i in simp (s.0, s.1, takes a_enum i) refl

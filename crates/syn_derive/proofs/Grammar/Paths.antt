@@ -6,13 +6,13 @@ use Rattle.tok_leaves.specs.declared.span.Span.{Span}
 use Rattle.tok_leaves.specs.Leaves.{ident}
 use Rattle.tok_core.specs.Forest.{Forest, leaf, tree}
 use Rattle.tok_types.specs.Sees.{any_ident_first, keyword_first}
-use Rattle.tok_types.specs.declared.punctuation.Punctuation.{Punctuation}
 use Rattle.tok_types.specs.declared.keyword.Keyword.{Keyword}
 use Rattle.tok_types.specs.Texts.{accept_as_ident}
-use Rattle.syn_parse.specs.Lighter.{lowers_punctuation}
+use Rattle.syn_parse.specs.Lighter.{lowers_token}
 use Rattle.syn_parse.specs.Optional.{take_optional}
 use Rattle.syn_parse.specs.Takes.{where_ahead}
-use Rattle.syn_parse.specs.TokenNames.{sees_path_sep, take_path_sep}
+use Rattle.syn_parse.specs.TokenNames.{Crate, PathSep, SelfType, SelfValue, Super, Token, sees}
+use Rattle.syn_parse.specs.TokenNames.{take}
 use Rattle.syn_parse.specs.Tokens.{sees_any_ident, sees_literal, take_any_ident, take_ident}
 use Rattle.syn_parse.specs.TreesAhead.{is_spent, only_trees}
 use Rattle.syn_punctuated.specs.TakeLists.{take_separated}
@@ -23,7 +23,8 @@ use Rattle.syn_derive.specs.declared.path.PathSegment.{PathSegment}
 use Rattle.syn_derive.specs.Grammar.{IsAnySegment, IsNestedPath, IsPath, IsPathSep, IsPathWord}
 use Rattle.syn_derive.specs.Grammar.{IsSegment, any_word, crate, identifier_segment, path_of_words}
 use Rattle.syn_derive.specs.Grammar.{self_type, self_value, simple_path, super, word_segment}
-use Rattle.syn_punctuated.specs.Parts.{IsAnyIdent, IsIdentifier, IsWord, No, Optional, Part, Separated}
+use Rattle.syn_punctuated.specs.Parts.{IsAnyIdent, IsIdentifier, IsWord, No, Optional, Part}
+use Rattle.syn_punctuated.specs.Parts.{Separated}
 use Rattle.syn_punctuated.specs.Parts.{and_others, any_ident, identifier, one, word}
 use Rattle.syn_punctuated.proofs.Exactly.{Exactly, Tells, Written, either, ends, exactly}
 use Rattle.syn_punctuated.proofs.Exactly.{optional_exactly, refused, separated_exactly, so}
@@ -39,11 +40,11 @@ not_reserved {k} {text} {f} {g} {name} r i v h w = go w i r where
       → accept_as_ident text ≡ false → ⊥
   go word (identifier a) r = false≢true (sym r ∙ a)
 
-pub path_sep : Exactly IsPathSep take_path_sep
-path_sep = sign_exactly 28 2 refl
+pub path_sep : Exactly IsPathSep (take PathSep)
+path_sep = sign_exactly PathSep refl
 
-pub path_sep_tells : Tells IsPathSep sees_path_sep
-path_sep_tells = sign_tells 28 2 refl
+pub path_sep_tells : Tells IsPathSep (sees PathSep)
+path_sep_tells = sign_tells PathSep refl
 
 -- the identifier of a segment
 abbrev pub IsSegmentIdent : Part Ident
@@ -59,12 +60,12 @@ path_word f name g i e =
     elim (or_cases _ _ e) [
       | inl h ↦ elim (or_cases _ _ h) [
         | inl h ↦ elim (or_cases _ _ h) [
-          | inl h ↦ word_is crate ((word_tells 10 _ _ refl).next f h).2 i
-          | inr h ↦ word_is self_value ((word_tells 38 _ _ refl).next f h).2 i
+          | inl h ↦ word_is crate ((word_tells Crate _ _ refl).next f h).2 i
+          | inr h ↦ word_is self_value ((word_tells SelfValue _ _ refl).next f h).2 i
         ]
-        | inr h ↦ word_is super ((word_tells 41 _ _ refl).next f h).2 i
+        | inr h ↦ word_is super ((word_tells Super _ _ refl).next f h).2 i
       ]
-      | inr h ↦ word_is self_type ((word_tells 37 _ _ refl).next f h).2 i
+      | inr h ↦ word_is self_type ((word_tells SelfType _ _ refl).next f h).2 i
     ]
 
 is_path_word : (text : List ℕ) (span : Span) (f : Forest) → IsPathWord text
@@ -78,10 +79,10 @@ is_path_word text span f self_type = refl
 no_path_word : {f g : Forest} {name : Ident} → IsIdentifier f name g
     → sees_path_word (only_trees f) ≡ false
 no_path_word i =
-    or_from _ _ (or_from _ _ (or_from _ _ (unseen (word_tells 10 _ _ refl) (not_reserved refl i))
-    (unseen (word_tells 38 _ _ refl) (not_reserved refl i)))
-    (unseen (word_tells 41 _ _ refl) (not_reserved refl i)))
-    (unseen (word_tells 37 _ _ refl) (not_reserved refl i))
+    or_from _ _ (or_from _ _ (or_from _ _ (unseen (word_tells Crate _ _ refl) (not_reserved refl i))
+    (unseen (word_tells SelfValue _ _ refl) (not_reserved refl i)))
+    (unseen (word_tells Super _ _ refl) (not_reserved refl i)))
+    (unseen (word_tells SelfType _ _ refl) (not_reserved refl i))
 
 segment_ident : Exactly IsSegmentIdent (where_ahead sees_path_word take_any_ident take_ident)
 segment_ident =
@@ -101,13 +102,13 @@ segment =
     (λ f g v s. simp (takes segment_ident s) refl)
 
 -- paths
-colon : Exactly (Optional IsPathSep IsPathSep) (take_optional sees_path_sep take_path_sep)
+colon : Exactly (Optional IsPathSep IsPathSep) (take_optional (sees PathSep) (take PathSep))
 colon = optional_exactly path_sep_tells path_sep (record { begins = path_sep_tells.seen })
 
 segments : Exactly (Separated IsSegment IsPathSep)
-    (take_separated sees_path_sep take_segment take_path_sep)
+    (take_separated (sees PathSep) take_segment (take PathSep))
 segments =
-    separated_exactly segment path_sep (lowers_punctuation 28 2) path_sep_tells lightens_segment
+    separated_exactly segment path_sep (lowers_token _) path_sep_tells lightens_segment
 
 pub path : Exactly IsPath take_path
 unfolding take_path
@@ -128,10 +129,10 @@ any_segment =
 any_segments : Exactly (Separated IsAnySegment IsPathSep) take_any_segments
 unfolding take_any_segments
 any_segments =
-    separated_exactly any_segment path_sep (lowers_punctuation 28 2) path_sep_tells
+    separated_exactly any_segment path_sep (lowers_token _) path_sep_tells
     lightens_any_segment
 
-any_seen : {f g : Forest} {v : List PathSegment × List (Punctuation 28 2)}
+any_seen : {f g : Forest} {v : List PathSegment × List (Token PathSep)}
     → Separated IsAnySegment IsPathSep f v g → sees_any_ident (only_trees f) ≡ true
 unfolding any_ident_first
 any_seen (one (any_word any_ident) n) = refl

@@ -15,7 +15,7 @@ use Rattle.syn_parse.specs.Inside.{sees_inside}
 use Rattle.syn_parse.specs.Optional.{take_optional}
 use Rattle.syn_parse.specs.Sequences.{take_both}
 use Rattle.syn_parse.specs.Takes.{take_group}
-use Rattle.syn_parse.specs.TokenNames.{sees_in, sees_pub, take_in, take_pub}
+use Rattle.syn_parse.specs.TokenNames.{Crate, In, Pub, SelfValue, Super, Token, sees, take}
 use Rattle.syn_parse.specs.TreesAhead.{Ahead, only_trees}
 use Rattle.syn_derive.specs.Paths.{PathForm, only_segment, take_path}
 use Rattle.syn_derive.specs.Visibilities.{is_restriction, is_word_alone, take_visibility}
@@ -24,33 +24,34 @@ use Rattle.syn_derive.specs.Grammar.{IsRestriction, IsVisibility, IsVisibilityWo
 use Rattle.syn_derive.specs.Grammar.{crate, in_crate, in_path, in_self, in_super, is_inherited}
 use Rattle.syn_derive.specs.Grammar.{is_public, is_restricted, self_value, simple_path, super}
 use Rattle.syn_derive.specs.Grammar.{word_alone, word_segment}
-use Rattle.syn_punctuated.specs.Parts.{InGroup, IsWord, Optional, absent, in_group, one, present, word}
+use Rattle.syn_punctuated.specs.Parts.{InGroup, IsWord, Optional, absent, in_group, one, present}
+use Rattle.syn_punctuated.specs.Parts.{word}
 use Rattle.syn_punctuated.proofs.Exactly.{Exactly, Tells, Written, either, ends, exactly}
 use Rattle.syn_punctuated.proofs.Exactly.{group_exactly, not_next, optional_exactly, takes}
 use Rattle.syn_punctuated.proofs.Exactly.{then, unseen}
 use Rattle.syn_punctuated.proofs.ExactTokens.{word_exactly, word_tells}
 use Rattle.syn_derive.proofs.Grammar.Paths.{path, path_sep_tells}
 
-pub_tells : Tells IsPubToken sees_pub
-pub_tells = word_tells 32 _ _ refl
+pub_tells : Tells IsPubToken (sees Pub)
+pub_tells = word_tells Pub _ _ refl
 
-in_tells : Tells IsInToken sees_in
-in_tells = word_tells 22 _ _ refl
+in_tells : Tells IsInToken (sees In)
+in_tells = word_tells In _ _ refl
 
 -- what is taken in the parentheses, whatever they hold
-data IsInside : Forest → Option (Keyword 22) × PathForm → Forest → Type 0 where
-  inside : {f g h : Forest} {word : Option (Keyword 22)} {path : PathForm}
+data IsInside : Forest → Option (Token In) × PathForm → Forest → Type 0 where
+  inside : {f g h : Forest} {word : Option (Token In)} {path : PathForm}
       → Optional IsInToken IsInToken f word g → IsPath g path h → IsInside f (word, path) h
 
-in_word : Exactly (Optional IsInToken IsInToken) (take_optional sees_in take_in)
-in_word = optional_exactly in_tells (word_exactly 22 _ _ refl) (record { begins = in_tells.seen })
+in_word : Exactly (Optional IsInToken IsInToken) (take_optional (sees In) (take In))
+in_word = optional_exactly in_tells (word_exactly In _ _ refl) (record { begins = in_tells.seen })
 
-all_inside : Exactly IsInside (take_both (take_optional sees_in take_in) take_path)
+all_inside : Exactly IsInside (take_both (take_optional (sees In) (take In)) take_path)
 unfolding take_both
 all_inside =
     exactly
     (then in_word (λ w. then path (λ p. ends (λ _ _ p _ w. inside w p)))) go where
-      go : Written IsInside (take_both (take_optional sees_in take_in) take_path)
+      go : Written IsInside (take_both (take_optional (sees In) (take In)) take_path)
       go _ _ _ (inside w p) = simp (takes in_word w, takes path p) refl
 
 -- one of the words is all there is
@@ -74,10 +75,10 @@ word_is_alone (tree (leaf (ident text span)) no_trees) e =
     let all = tree (leaf (ident text span)) no_trees in
     elim (or_cases _ _ (and_parts _ _ e).0) [
       | inl h ↦ elim (or_cases _ _ h) [
-        | inl h ↦ is_alone in_crate ((word_tells 10 _ _ refl).next all h).2
-        | inr h ↦ is_alone in_self ((word_tells 38 _ _ refl).next all h).2
+        | inl h ↦ is_alone in_crate ((word_tells Crate _ _ refl).next all h).2
+        | inr h ↦ is_alone in_self ((word_tells SelfValue _ _ refl).next all h).2
       ]
-      | inr h ↦ is_alone in_super ((word_tells 41 _ _ refl).next all h).2
+      | inr h ↦ is_alone in_super ((word_tells Super _ _ refl).next all h).2
     ]
 
 -- the path that a word alone is
@@ -95,7 +96,7 @@ word_path w =
     (one (word_segment (of_path w)) (not_next path_sep_tells refl))
 
 -- what is in the parentheses of a visibility is a restriction
-restriction : {f : Forest} {v : Option (Keyword 22) × PathForm} → IsInside f v no_trees
+restriction : {f : Forest} {v : Option (Token In) × PathForm} → IsInside f v no_trees
     → is_restriction f ≡ true → IsRestriction f v no_trees
 unfolding is_restriction
 restriction (inside (present w) p) e = in_path w p
@@ -109,7 +110,7 @@ restriction {f} (inside (absent n) p) e = elim (or_cases _ _ e) [
       subst (λ x. IsRestriction (tree (leaf (ident text span)) no_trees) (None, x) no_trees)
       (found_first (sym (takes path (word_path w)) ∙ takes path i)) (word_alone w)
 
-is_inside : {f g : Forest} {v : Option (Keyword 22) × PathForm} → IsRestriction f v g
+is_inside : {f g : Forest} {v : Option (Token In) × PathForm} → IsRestriction f v g
     → IsInside f v g × (is_restriction f ≡ true)
 unfolding is_restriction is_word_alone keyword_first
 is_inside (in_path w p) = (inside (present w) p, or_left _ _ (in_tells.seen w))
@@ -146,7 +147,7 @@ restricted_next (tree (group Parenthesis x y) f) e = elim (or_cases _ _ e) [
   of_alone (alone w) = by_word w
 
 abbrev Restriction : Type 0
-Restriction = DelimSpan × (Option (Keyword 22) × PathForm)
+Restriction = DelimSpan × (Option (Token In) × PathForm)
 
 in_parentheses : {f g : Forest} {v : Restriction} → InGroup Parenthesis IsInside f v g
     → sees_restriction (only_trees f) ≡ true → InGroup Parenthesis IsRestriction f v g
@@ -156,18 +157,18 @@ is_in_parentheses : {f g : Forest} {v : Restriction} → InGroup Parenthesis IsR
     → InGroup Parenthesis IsInside f v g × (sees_restriction (only_trees f) ≡ true)
 is_in_parentheses (in_group i) = let x = is_inside i in (in_group x.0, x.1)
 
-pub_word : Exactly IsPubToken take_pub
-pub_word = word_exactly 32 _ _ refl
+pub_word : Exactly IsPubToken (take Pub)
+pub_word = word_exactly Pub _ _ refl
 
 parentheses : Exactly (InGroup Parenthesis IsInside)
-    (take_group Parenthesis (take_both (take_optional sees_in take_in) take_path))
+    (take_group Parenthesis (take_both (take_optional (sees In) (take In)) take_path))
 parentheses = group_exactly Parenthesis all_inside
 
 pub visibility : Exactly IsVisibility take_visibility
 unfolding take_visibility
 visibility =
     exactly
-    (either sees_pub (then pub_word (λ w. either sees_restriction (then parentheses
+    (either (sees Pub) (then pub_word (λ w. either sees_restriction (then parentheses
     (λ r. ends (λ _ _ r s _ w t. is_restricted w (in_parentheses r s))))
     (ends (λ _ s _ w t. is_public w (λ r. false≢true (sym s ∙ restricted_seen r))))))
     (ends (λ _ t. is_inherited (not_next pub_tells t)))) go where

@@ -1,7 +1,9 @@
-use Rattle.syn_derive.proofs.Grammar.Attributes.{attribute, attributes, meta, nested_meta, nested_metas}
+use Rattle.syn_derive.proofs.Grammar.Attributes.{attribute, attributes, meta, meta_list}
+use Rattle.syn_derive.proofs.Grammar.Attributes.{name_value, nested_meta, nested_metas}
 use Rattle.syn_punctuated.proofs.Exactly.{has_grammar}
 use Rattle.syn_derive.proofs.Grammar.Fields.{named_field, unnamed_field, variant, variant_fields}
 use Rattle.syn_derive.proofs.Grammar.Items.{clause_of, derive_input_exactly, params}
+use Rattle.syn_derive.proofs.Grammar.NestedMetas.{meta_item_inner, meta_seq_exactly}
 use Rattle.syn_derive.proofs.Grammar.Paths.{path}
 use Rattle.syn_derive.proofs.Grammar.Visibilities.{visibility}
 use Rattle.syn_derive.proofs.laws.grammar_is_parsed.Goals as goal
@@ -15,11 +17,23 @@ returns-clause-visibilities c = has_grammar visibility
 pub returns-clause-metas : goal.returns-clause-metas
 returns-clause-metas c = has_grammar meta
 
+pub returns-clause-meta_lists : goal.returns-clause-meta_lists
+returns-clause-meta_lists c = has_grammar meta_list
+
+pub returns-clause-name_values : goal.returns-clause-name_values
+returns-clause-name_values c = has_grammar name_value
+
 pub returns-clause-nested_metas : goal.returns-clause-nested_metas
 returns-clause-nested_metas c = has_grammar nested_metas
 
 pub returns-clause-nested_meta : goal.returns-clause-nested_meta
 returns-clause-nested_meta c = has_grammar nested_meta
+
+pub returns-clause-meta_items : goal.returns-clause-meta_items
+returns-clause-meta_items c = has_grammar meta_item_inner
+
+pub returns-clause-meta_seqs : goal.returns-clause-meta_seqs
+returns-clause-meta_seqs c = has_grammar meta_seq_exactly
 
 pub returns-clause-attribute : goal.returns-clause-attribute
 returns-clause-attribute c = has_grammar attribute

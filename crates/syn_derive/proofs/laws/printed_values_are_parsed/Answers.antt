@@ -1,4 +1,5 @@
-use Rattle.syn_derive.proofs.Again.Values.{attributes, attributes_hold, inputs, nested_metas, paths}
+use Rattle.syn_derive.proofs.Again.Values.{attributes, attributes_hold, inputs, meta_items}
+use Rattle.syn_derive.proofs.Again.Values.{meta_lists, name_values, nested_metas, paths}
 use Rattle.syn_derive.proofs.Again.Values.{struct_fields, tuple_fields, variant_fields, variants}
 use Rattle.syn_derive.proofs.Again.Values.{runs, visibilities}
 use Rattle.syn_derive.proofs.laws.printed_values_are_parsed.Goals as goal
@@ -18,8 +19,17 @@ returns-clause-visibilities c = visibilities
 pub returns-clause-metas : goal.returns-clause-metas
 returns-clause-metas c = attributes_hold
 
+pub returns-clause-meta_lists : goal.returns-clause-meta_lists
+returns-clause-meta_lists c = meta_lists
+
+pub returns-clause-name_values : goal.returns-clause-name_values
+returns-clause-name_values c = name_values
+
 pub returns-clause-nested_metas : goal.returns-clause-nested_metas
 returns-clause-nested_metas c = nested_metas
+
+pub returns-clause-meta_items : goal.returns-clause-meta_items
+returns-clause-meta_items c = meta_items
 
 pub returns-clause-attributes : goal.returns-clause-attributes
 returns-clause-attributes c = attributes
