@@ -10,29 +10,29 @@ use Rattle.tok_core.specs.Lexical.Reading.{ReadsForest}
 use Rattle.tok_core.proofs.Lexical.Visible.{all_visible}
 use Rattle.syn_parse.specs.Sources.{end_of_tokens}
 use Rattle.syn_parse.specs.Takings.{KeepsWhole}
+use Rattle.syn_parse.specs.TokenNames.{Comma, Token}
 use Rattle.syn_parse.specs.TreesAhead.{all_taken}
 use Rattle.syn_parse.specs.declared.fault.Fault.{Fault}
 use Rattle.syn_parse.specs.declared.fault.Fault.TheVariants.{Memory, Refused}
 use Rattle.syn_punctuated.specs.TakeLists.{list_form}
 use Rattle.syn_punctuated.specs.declared.punctuated.Punctuated.{Punctuated}
-use Rattle.example_config.specs.Forms.{Comma, setting_form}
+use Rattle.example_config.specs.Forms.{setting_form}
 use Rattle.example_config.specs.Grammar.{Parses}
 use Rattle.example_config.specs.Reading.{ReadsText, settings}
 use Rattle.example_config.specs.declared.value.Setting.{Setting}
-use Rattle.example_config.proofs.Sound.{sound}
-use Rattle.example_config.proofs.Written.{settings_taken}
+use Rattle.example_config.proofs.Grammar.{settings_taken, sound}
 
-parses : (f : Forest) (end : Span) (r : Result (Punctuated Setting Comma) Fault)
+parses : (f : Forest) (end : Span) (r : Result (Punctuated Setting (Token Comma)) Fault)
     → KeepsWhole settings f end r → filled f ≡ true → Parses (erase f) r
 parses f end (Ok config) h i =
-    (sound (erase f) all_taken (list_form setting_form (λ p. p) config) (h i)).1
+    (sound.taken (erase f) all_taken (list_form setting_form (λ p. p) config) (h i)).1
 parses f end (Err (Refused e)) h i =
-    inr (λ form l. (h i).0.0 form (settings_taken (erase f) form l))
+    inr (λ form l. (h i).0.0 form (settings_taken l))
 parses f end (Err (Memory e)) h i = inl tt
 
 -- a text has no invisible groups, so its tokens are all that is read
 pub reads_text : (source : ℕ) (cs : List ℕ) (f : Forest)
-    (r : Result (Punctuated Setting Comma) Fault) → ReadsForest Plain source cs f
+    (r : Result (Punctuated Setting (Token Comma)) Fault) → ReadsForest Plain source cs f
     → KeepsWhole settings f (end_of_tokens source f) r → ReadsText source cs r
 reads_text source cs f r h k =
     let s = all_visible 0 Plain source cs f refl h in

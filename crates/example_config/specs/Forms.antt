@@ -3,20 +3,12 @@ use Rattle.std.specs.Prelude.{ℕ, Bool, List, [], ◌∷◌, string_bytes}
 use Rattle.tok_leaves.specs.declared.ident.Ident.{Ident}
 use Rattle.tok_leaves.specs.declared.span.Span.{Span}
 use Rattle.tok_leaves.specs.Spans.{whole_span}
-use Rattle.tok_types.specs.declared.punctuation.Punctuation.{Punctuation}
+use Rattle.syn_parse.specs.TokenNames.{Colon, Comma, Token}
 use Rattle.syn_punctuated.specs.Lists.{values_of, separators_of}
 use Rattle.example_config.specs.declared.value.Setting.{Setting}
 use Rattle.example_config.specs.declared.value.Value.{Value}
 use Rattle.example_config.specs.declared.value.Value.TheFolds.{fold-Setting, fold-Value}
 use Rattle.example_config.specs.declared.value.Value.TheOpen.{Setting-F, Value-F}
-
--- the tokens `:` and `,`, by their numbers in the table of punctuations
-abbrev pub Colon : Type 0
-Colon = Punctuation 6 1
-
--- the type of `,`
-abbrev pub Comma : Type 0
-Comma = Punctuation 7 1
 
 mutual
   -- a text, a number or a truth value; or, between delimiters, values or settings and their commas
@@ -24,8 +16,8 @@ mutual
     text : Span → List ℕ → Form
     number : Span → ℕ → Form
     truth : Span → Bool → Form
-    list : Span → Forms → List Comma → Form
-    map : Span → SettingForms → List Comma → Form
+    list : Span → Forms → List (Token Comma) → Form
+    map : Span → SettingForms → List (Token Comma) → Form
 
   -- no value, or a first one and the others
   pub data Forms : Type 0 where
@@ -35,11 +27,11 @@ mutual
   -- no setting, or a first one and the others
   pub data SettingForms : Type 0 where
     no_settings : SettingForms
-    one_setting : Ident → Colon → Form → SettingForms → SettingForms
+    one_setting : Ident → Token Colon → Form → SettingForms → SettingForms
 
 -- a key, a colon and a value
 abbrev pub SettingForm : Type 0
-SettingForm = Ident × Colon × Form
+SettingForm = Ident × Token Colon × Form
 
 -- a list of forms as its own type
 abbrev pub forms : List Form → Forms
@@ -52,11 +44,11 @@ setting_forms [] = no_settings
 setting_forms (s ∷ ss) = one_setting s.0 s.1 s.2 (setting_forms ss)
 
 -- values in brackets of this span
-abbrev pub listed : Span → List Form × List Comma → Form
+abbrev pub listed : Span → List Form × List (Token Comma) → Form
 listed span values = list span (forms values.0) values.1
 
 -- settings in braces of this span
-abbrev pub mapped : Span → List SettingForm × List Comma → Form
+abbrev pub mapped : Span → List SettingForm × List (Token Comma) → Form
 mapped span settings = map span (setting_forms settings.0) settings.1
 
 -- a value, with the forms of those that it holds in their place

@@ -13,10 +13,11 @@ use Rattle.tok_core.specs.Forest.{Tree, leaf, group, Forest, no_trees, tree, for
 use Rattle.tok_types.specs.Texts.{accept_as_ident}
 use Rattle.tok_types.specs.declared.punctuation.Punctuation.{Punctuation}
 use Rattle.syn_parse.specs.Faults.{IsMemory}
+use Rattle.syn_parse.specs.TokenNames.{Comma, Token}
 use Rattle.syn_parse.specs.declared.fault.Fault.{Fault}
 use Rattle.syn_punctuated.specs.TakeLists.{list_form}
 use Rattle.syn_punctuated.specs.declared.punctuated.Punctuated.{Punctuated}
-use Rattle.example_config.specs.Forms.{Comma, Form, SettingForm, forms, list, map, number, setting_forms}
+use Rattle.example_config.specs.Forms.{Form, SettingForm, forms, list, map, number, setting_forms}
 use Rattle.example_config.specs.Forms.{setting_form, text, truth}
 use Rattle.example_config.specs.declared.value.Setting.{Setting}
 
@@ -28,7 +29,7 @@ sign c spacing span = leaf (punct c spacing span)
 abbrev pub sign_at : {k : ℕ} → Span → Punctuation k 1
 sign_at span = record { spans = span ∷ [] }
 
--- the codes of `:` and `,`
+-- the character `:`
 abbrev pub colon : ℕ
 colon = 58
 
@@ -57,11 +58,11 @@ mutual
         → IsValue (number literal.span n) (leaf (literal_of literal) ∷ [])
     is_true : (span : Span) → IsValue (truth span true) (leaf (ident (codes "true") span) ∷ [])
     is_false : (span : Span) → IsValue (truth span false) (leaf (ident (codes "false") span) ∷ [])
-    is_list : (inside : Forest) (span : Span) (values : List Form) (commas : List Comma)
+    is_list : (inside : Forest) (span : Span) (values : List Form) (commas : List (Token Comma))
         → AreValues inside values commas
         → IsValue (list span (forms values) commas) (group Bracket inside span ∷ [])
-    is_map : (inside : Forest) (span : Span) (settings : List SettingForm) (commas : List Comma)
-        → AreSettings inside settings commas
+    is_map : (inside : Forest) (span : Span) (settings : List SettingForm)
+        (commas : List (Token Comma)) → AreSettings inside settings commas
         → IsValue (map span (setting_forms settings) commas) (group Brace inside span ∷ [])
 
   -- A setting: a key, a colon and a value.
@@ -72,40 +73,40 @@ mutual
         (leaf (ident_of key) ∷ sign colon spacing span ∷ trees)
 
   -- Values and the commas between them: nothing; or one value; or one, a comma and values.
-  pub data AreValues : Forest → List Form → List Comma → Type 0 where
+  pub data AreValues : Forest → List Form → List (Token Comma) → Type 0 where
     no_value : AreValues no_trees [] []
     last_value : (trees : List Tree) (value : Form) → IsValue value trees
         → AreValues (forest trees) (value ∷ []) []
     and_values : (trees : List Tree) (value : Form) (spacing : Spacing) (span : Span)
-        (rest : Forest) (others : List Form) (commas : List Comma) → IsValue value trees
+        (rest : Forest) (others : List Form) (commas : List (Token Comma)) → IsValue value trees
         → AreValues rest others commas
         → AreValues (concat (forest trees) (tree (sign comma spacing span) rest))
         (value ∷ others) (sign_at span ∷ commas)
 
-  -- Settings and the commas between them, in the same way.
-  pub data AreSettings : Forest → List SettingForm → List Comma → Type 0 where
+  -- Settings and the commas between them: nothing; or one setting; or one, a comma and settings.
+  pub data AreSettings : Forest → List SettingForm → List (Token Comma) → Type 0 where
     no_setting : AreSettings no_trees [] []
     last_setting : (trees : List Tree) (setting : SettingForm) → IsSetting setting trees
         → AreSettings (forest trees) (setting ∷ []) []
     and_settings : (trees : List Tree) (setting : SettingForm) (spacing : Spacing) (span : Span)
-        (rest : Forest) (others : List SettingForm) (commas : List Comma)
+        (rest : Forest) (others : List SettingForm) (commas : List (Token Comma))
         → IsSetting setting trees → AreSettings rest others commas
         → AreSettings (concat (forest trees) (tree (sign comma spacing span) rest))
         (setting ∷ others) (sign_at span ∷ commas)
 
 -- settings and their commas
 abbrev pub ListForm : Type 0
-ListForm = List SettingForm × List Comma
+ListForm = List SettingForm × List (Token Comma)
 
 -- these trees are settings of this form
 abbrev pub AreForms : Forest → ListForm → Type 0
 AreForms trees form = AreSettings trees form.0 form.1
 
 -- these trees are these settings
-abbrev pub AreConfig : Forest → Punctuated Setting Comma → Type 0
+abbrev pub AreConfig : Forest → Punctuated Setting (Token Comma) → Type 0
 AreConfig trees config = AreForms trees (list_form setting_form (λ p. p) config)
 
 -- the settings that these trees are, or an error if they are none; or an allocation failure
-abbrev pub Parses : Forest → Result (Punctuated Setting Comma) Fault → Type 0
+abbrev pub Parses : Forest → Result (Punctuated Setting (Token Comma)) Fault → Type 0
 Parses trees (Ok config) = AreConfig trees config
 Parses trees (Err f) = IsMemory f ⊎ ((form : ListForm) → AreForms trees form → ⊥)

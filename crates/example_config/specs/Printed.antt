@@ -1,5 +1,5 @@
 -- How settings are printed.
-use Rattle.std.specs.Prelude.{List, [], ◌∷◌, ◌++◌, ℕ, codes, cond}
+use Rattle.std.specs.Prelude.{List, [], ◌∷◌, ◌++◌, ℕ, codes, if◌then◌else◌}
 use Rattle.std.specs.Fmt.{decimal}
 use Rattle.std.specs.List.{flat_map, join_by}
 use Rattle.std.specs.Str.{chars}
@@ -29,7 +29,7 @@ abbrev mutual
   pub value_text : Form → List ℕ
   value_text (text span t) = in_quotes (chars t)
   value_text (number span n) = decimal n
-  value_text (truth span b) = cond b (codes "true") (codes "false")
+  value_text (truth span b) = if b then codes "true" else codes "false"
   value_text (list span values commas) = in_brackets (value_texts values)
   value_text (map span settings commas) = in_braces (setting_texts settings)
 

@@ -11,21 +11,22 @@ use Rattle.tok_values.specs.Values.{integer_value, string_value}
 use Rattle.tok_core.specs.Forest.{Forest}
 use Rattle.tok_core.specs.Lexical.Reading as grammar
 use Rattle.tok_core.specs.declared.lexer.error.LexError.{LexError}
-use Rattle.syn_parse.specs.Faults.{FailsWith}
 use Rattle.syn_parse.specs.Nested.{take_nested}
 use Rattle.syn_parse.specs.Owned.{sees_own, take_own}
-use Rattle.syn_parse.specs.Parsers.{OnMemory, lex_message}
+use Rattle.syn_parse.specs.Parsers.{FailsExplained, OnMemory}
 use Rattle.syn_parse.specs.Sources.{end_of_tokens}
 use Rattle.syn_parse.specs.Takes.{IsMissing, MemoryOr, Outcome, SaysFound, Taking, TakesAll}
 use Rattle.syn_parse.specs.Takes.{◌>>=◌, found, gives, refuses, refuses_at, take_group, where_ahead}
 use Rattle.syn_parse.specs.Takings.{Takings, taken_filled}
-use Rattle.syn_parse.specs.TokenNames.{take_colon, take_comma}
-use Rattle.syn_parse.specs.Tokens.{sees_any_ident, sees_group, sees_literal, take_ident, take_literal}
+use Rattle.syn_parse.specs.TokenNames.{Colon, Comma, Token, take}
+use Rattle.syn_parse.specs.Tokens.{sees_any_ident, sees_group, sees_literal, take_ident}
+use Rattle.syn_parse.specs.Tokens.{take_literal}
 use Rattle.syn_parse.specs.TreesAhead.{Ahead}
 use Rattle.syn_parse.specs.declared.fault.Fault.{Fault}
 use Rattle.syn_punctuated.specs.TakeLists.{list_form, take_terminated}
 use Rattle.syn_punctuated.specs.declared.punctuated.Punctuated.{Punctuated}
-use Rattle.example_config.specs.Forms.{Comma, Form, SettingForm, listed, mapped, number, setting_form, text}
+use Rattle.example_config.specs.Forms.{Form, SettingForm, listed, mapped, number}
+use Rattle.example_config.specs.Forms.{setting_form, text}
 use Rattle.example_config.specs.Forms.{truth, value_form}
 use Rattle.example_config.specs.Grammar.{Parses}
 use Rattle.example_config.specs.declared.value.Setting.{Setting}
@@ -98,20 +99,20 @@ unfoldable pub setting_step : Taking Form → Taking SettingForm
 setting_step value =
     where_ahead (sees_own (codes "include")) (refuses (codes "this language has no `include`")) (do
       key ← take_key
-      colon ← take_colon
+      colon ← take Colon
       form ← value
       gives (key, colon, form))
 
 -- values in brackets
 unfoldable pub take_list_value : Taking Form → Taking Form
 take_list_value value = do
-  values ← take_group Bracket (take_terminated value take_comma)
+  values ← take_group Bracket (take_terminated value (take Comma))
   gives (listed values.0.join values.1)
 
 -- settings in braces
 unfoldable pub take_map_value : Taking Form → Taking Form
 take_map_value value = do
-  settings ← take_group Brace (take_terminated (setting_step value) take_comma)
+  settings ← take_group Brace (take_terminated (setting_step value) (take Comma))
   gives (mapped settings.0.join settings.1)
 
 -- one value, by how those within it are taken
@@ -129,8 +130,8 @@ abbrev pub take_setting : Taking SettingForm
 take_setting = setting_step take_value
 
 -- settings with commas between them; there may be one after the last
-abbrev pub take_settings : Taking (List SettingForm × List Comma)
-take_settings = take_terminated take_setting take_comma
+abbrev pub take_settings : Taking (List SettingForm × List (Token Comma))
+take_settings = take_terminated take_setting (take Comma)
 
 -- the parse of a list, if no invisible group is empty
 abbrev pub list_value : Takings Value
@@ -141,19 +142,20 @@ abbrev pub map_value : Takings Value
 map_value = taken_filled value_form (take_map_value take_value)
 
 -- the parse of values and their commas, if no invisible group is empty
-abbrev pub values : Takings (Punctuated Value Comma)
-values = taken_filled (list_form value_form (λ p. p)) (take_terminated take_value take_comma)
+abbrev pub values : Takings (Punctuated Value (Token Comma))
+values = taken_filled (list_form value_form (λ p. p)) (take_terminated take_value (take Comma))
 
 -- the parse of settings and their commas, if no invisible group is empty
-abbrev pub settings : Takings (Punctuated Setting Comma)
+abbrev pub settings : Takings (Punctuated Setting (Token Comma))
 settings = taken_filled (list_form setting_form (λ p. p)) take_settings
 
 -- The text of a source is tokens. They are the settings that are returned; or they are none, and
 -- the error says what is missing first, at its position. Or the grammar of tokens rejects it.
-abbrev pub ReadsText : (source : ℕ) → List ℕ → Result (Punctuated Setting Comma) Fault → Type 0
+abbrev pub ReadsText : (source : ℕ) → List ℕ → Result (Punctuated Setting (Token Comma)) Fault
+    → Type 0
 ReadsText source cs r =
     ((f : Forest) × grammar.ReadsForest Plain source cs f
     × TakesAll (list_form setting_form (λ p. p)) take_settings f (end_of_tokens source f) r
     × Parses f r)
-    ⊎ (((e : LexError) × grammar.IsRejected Plain source cs e × FailsWith (lex_message e) r)
+    ⊎ (((e : LexError) × grammar.IsRejected Plain source cs e × FailsExplained cs e r)
     ⊎ OnMemory r)

@@ -1,5 +1,5 @@
-//! Settings as text. `specs/Printed.antt` says what is written.
-ghost use Rattle.std.specs.Prelude.{Some, [], cond, codes, map};
+//! A type that displays settings as text. `specs/Printed.antt` defines this text.
+ghost use Rattle.std.specs.Prelude.{Some, [], if◌then◌else◌, codes, map};
 ghost use Rattle.std.specs.Fmt.{WritesOnOk};
 ghost use Rattle.std.specs.Str.{chars};
 ghost use Rattle.syn_punctuated.specs.Lists.{values_of};
@@ -13,14 +13,18 @@ use std::fmt::{Display, Formatter, Write};
 use syn_punctuated::Punctuated;
 use tok_types::token;
 
-/// Settings as a text, a setting a line.
+/// A wrapper that displays settings as a text, with one setting on each line.
 ///
-/// A text is written as `Literal::string` writes it, a number is decimal, and a list or a map is on
-/// one line. Spans, and a comma after the last value of a list or a map, are not kept.
+/// A string is written in the same way as by `Literal::string`, a number is decimal, and a list or
+/// a map is on one line. The text contains no spans, and no comma after the last value of a list or
+/// a map.
+///
+/// If `parse_config` returned the settings, then parsing the displayed text returns the same
+/// settings, except for spans and trailing commas (see `laws::settings_are_read_back`).
 #[derive(Clone, Copy)]
 pub struct Shown<'a>(pub &'a Config);
 
-/// Writes each setting and a comma in a line of its own.
+/// Writes each setting on its own line, with a comma after the setting.
 impl Display for Shown<'_> {
     ghost output = { λ shown. Some (settings_text (map setting_form (values_of shown.0.now))) };
 
@@ -96,7 +100,8 @@ fn write_map<W: Write>(f: &mut Formatter<W>, settings: &Config) -> fmt::Result
 
 // Writes a comma and a space, unless the value after them is the first.
 fn write_between<W: Write>(f: &mut Formatter<W>, is_first: bool) -> fmt::Result
-    ensures { WritesOnOk W.write_str_gives f.old result (cond is_first [] (codes ", ")) f.new }
+    ensures { WritesOnOk W.write_str_gives f.old result (if is_first then [] else codes ", ")
+        f.new }
 {
     if is_first { Ok(()) } else { f.write_str(", ") }
 }

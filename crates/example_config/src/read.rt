@@ -1,4 +1,4 @@
-//! The reader.
+//! The parser of settings.
 ghost use Rattle.std.specs.Prelude.{ℕ, Err, List, Option, Some};
 ghost use Rattle.std.specs.Str.{chars};
 ghost use Rattle.syn_parse.specs.Takes.{Takes, TakesAs};
@@ -20,10 +20,10 @@ use tok_core::{Ident, Literal, Span};
 use tok_types::{IdentAny, token};
 use tok_values::{Integer, IntegerFault, LiteralExt};
 
-/// Reads a text of source `number`.
+/// Parses `text`, which has the source number `number`, as settings.
 ///
-/// If the text is no configuration, returns the error of the first parser that fails. An error at
-/// the end of the text has the empty span behind the last token.
+/// If the text does not consist of settings, returns the error of the first parser that fails. An
+/// error at the end of the text has the empty span after the last token.
 pub fn parse_config(alloc: Global, number: u32, text: &str) -> Result<Config>
     ensures { ReadsText number (chars text.now) result }
 {
@@ -36,12 +36,7 @@ fn read_settings(input: ParseStream<'_, '_>) -> Result<Config>
     ensures { Keeps settings input.old result input.new }
 {
     parses_go_on();
-    Punctuated::parse_terminated_with(
-        input,
-        |input|
-            ensures { Keeps setting input.old result input.new }
-        { read_setting(input) },
-    )
+    Punctuated::parse_terminated_with(input, read_setting)
 }
 
 // Reads values up to the end.
@@ -50,17 +45,12 @@ fn read_values(input: ParseStream<'_, '_>) -> Result<Punctuated<Value, token::Co
     ensures { Keeps values input.old result input.new }
 {
     parses_go_on();
-    Punctuated::parse_terminated_with(
-        input,
-        |input|
-            ensures { Keeps value input.old result input.new }
-        { read_value(input) },
-    )
+    Punctuated::parse_terminated_with(input, read_value)
 }
 
 // Reads a key, a colon and a value.
 #[cycle(reading)]
-#[tactic(auto, using(crate::proofs::Formed::one), unfolding(crate::specs::Reading::setting_step))]
+#[tactic(auto, using(crate::proofs::Formed::plain), unfolding(crate::specs::Reading::setting_step))]
 fn read_setting(input: ParseStream<'_, '_>) -> Result<Setting>
     ensures { Keeps setting input.old result input.new }
 {
@@ -75,7 +65,7 @@ fn read_setting(input: ParseStream<'_, '_>) -> Result<Setting>
 
 // Reads a key, if a word is next.
 #[tactic(auto, unfolding(crate::specs::Reading::take_key))]
-fn read_key(input: ParseStream<'_, '_>) -> Result<Ident>
+pub(crate) fn read_key(input: ParseStream<'_, '_>) -> Result<Ident>
     ensures { Takes take_key input.old result input.new }
 {
     if input.peek::<IdentAny>() {
@@ -102,7 +92,7 @@ fn read_value(input: ParseStream<'_, '_>) -> Result<Value>
 
 // Reads values in brackets.
 #[cycle(reading)]
-#[tactic(auto, using(crate::proofs::Formed::all), unfolding(syn_parse::specs::Takes::take_group))]
+#[tactic(auto, using(crate::proofs::Formed::all), unfolding(syn_parse::specs::Takes::take_group, crate::specs::Reading::take_list_value))]
 fn read_list(input: ParseStream<'_, '_>) -> Result<Value>
     ensures { Keeps list_value input.old result input.new }
 {
@@ -114,7 +104,7 @@ fn read_list(input: ParseStream<'_, '_>) -> Result<Value>
 
 // Reads settings in braces.
 #[cycle(reading)]
-#[tactic(auto, using(crate::proofs::Formed::all), unfolding(syn_parse::specs::Takes::take_group))]
+#[tactic(auto, using(crate::proofs::Formed::all), unfolding(syn_parse::specs::Takes::take_group, crate::specs::Reading::take_map_value))]
 fn read_map(input: ParseStream<'_, '_>) -> Result<Value>
     ensures { Keeps map_value input.old result input.new }
 {
@@ -126,7 +116,7 @@ fn read_map(input: ParseStream<'_, '_>) -> Result<Value>
 
 // Reads a value that holds no others.
 #[tactic(auto, using(crate::proofs::Formed::plain), unfolding(crate::specs::Reading::take_plain))]
-fn read_plain(input: ParseStream<'_, '_>) -> Result<Value>
+pub(crate) fn read_plain(input: ParseStream<'_, '_>) -> Result<Value>
     ensures { TakesAs value_form take_plain input.old result input.new }
 {
     if input.peek::<True>() {

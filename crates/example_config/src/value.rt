@@ -1,4 +1,4 @@
-//! Settings and their values.
+//! Types for settings and their values.
 ghost use Rattle.std.specs.Prelude.{codes};
 
 use syn_parse::{Own, Word};
@@ -6,10 +6,10 @@ use syn_punctuated::Punctuated;
 use tok_core::{Ident, Span};
 use tok_types::token;
 
-/// Settings with commas between them, and perhaps after the last.
+/// A list of settings with commas between them, and an optional comma after the last setting.
 pub type Config = Punctuated<Setting, token::Comma>;
 
-/// A key, a colon and a value.
+/// A setting, which consists of a key, a colon and a value.
 #[cycle(values)]
 #[derive(Drop)]
 pub struct Setting {
@@ -18,7 +18,7 @@ pub struct Setting {
     pub value: Value,
 }
 
-/// A value, and where it is.
+/// The value of a setting, with its location in the text.
 #[cycle(values)]
 #[derive(Drop)]
 pub enum Value {
@@ -28,13 +28,13 @@ pub enum Value {
     Number(Span, u64),
     /// `true` or `false`.
     Truth(Span, bool),
-    /// Values in brackets.
+    /// A list of values in brackets.
     List(token::Bracket, Punctuated<Value, token::Comma>),
-    /// Settings in braces.
+    /// A map, which consists of settings in braces.
     Map(token::Brace, Config),
 }
 
-/// The text of `Include`.
+/// The word `include`, for the token type `Own<IncludeWord>`.
 pub struct IncludeWord;
 
 impl Word for IncludeWord {
@@ -45,10 +45,10 @@ impl Word for IncludeWord {
     }
 }
 
-/// The keyword `include`, which no key may be.
+/// The keyword `include`, which can't be a key.
 pub type Include = Own<IncludeWord>;
 
-/// The text of `True`.
+/// The word `true`, for the token type `Own<TrueWord>`.
 pub struct TrueWord;
 
 impl Word for TrueWord {
@@ -62,7 +62,7 @@ impl Word for TrueWord {
 /// The keyword `true`.
 pub type True = Own<TrueWord>;
 
-/// The text of `False`.
+/// The word `false`, for the token type `Own<FalseWord>`.
 pub struct FalseWord;
 
 impl Word for FalseWord {

@@ -1,7 +1,8 @@
-//! Reads configurations from standard input, with a line `---` between two of them.
+//! Reads configurations from standard input, with a line `---` between two configurations.
 //!
-//! Prints each in its normal form, or its error with the line and carets. The exit status is 0, or 1
-//! if a configuration is rejected, or 2 if a read, a write or an allocation fails.
+//! Prints each configuration in its normal form, or its error with the line and carets. The exit
+//! status is 0, or 1 if a configuration is rejected, or 2 if a read, a write or an allocation
+//! fails.
 #![tactic(auto)]
 
 use example_config::{Shown, parse_config};

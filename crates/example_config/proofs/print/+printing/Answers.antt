@@ -4,11 +4,12 @@ use denote.Param.Weighed.{most}
 use Rattle.std.proofs.Output.{has_written_append, has_written_of_eq}
 use Rattle.std.proofs.lemmas.Grind.{put_three}
 use Rattle.std.specs.Global.{Box, Vec}
+use Rattle.syn_parse.specs.TokenNames.{Comma, Token}
 use Rattle.syn_punctuated.proofs.Depth.{deepest_value, most_values}
 use Rattle.syn_punctuated.specs.Lists.{values_of}
 use Rattle.syn_punctuated.specs.declared.punctuated.Punctuated.{Punctuated}
 use Rattle.tok_types.specs.declared.delimiter.Visible.{Visible}
-use Rattle.example_config.specs.Forms.{Comma, forms, setting_form, setting_forms, value_form}
+use Rattle.example_config.specs.Forms.{forms, setting_form, setting_forms, value_form}
 use Rattle.example_config.specs.Printed.{in_a_row, setting_texts, value_text}
 use Rattle.example_config.specs.Printed.{value_texts}
 use Rattle.example_config.specs.declared.value.Setting.{Setting, size-Setting}
@@ -18,14 +19,14 @@ use Rattle.example_config.proofs.Printing.{all_written, left, none_written, text
 use Rattle.example_config.proofs.print.+printing.Goals as goal
 
 -- how deep a list and a map are
-list-by : (bracket : Visible 2) (inner : Vec (Value × Comma)) (last : Option (Box Value))
-    → let values : Punctuated Value Comma = record { inner = inner; last = last } in
+list-by : (bracket : Visible 2) (inner : Vec (Value × Token Comma)) (last : Option (Box Value))
+    → let values : Punctuated Value (Token Comma) = record { inner = inner; last = last } in
     size-Value (List bracket values) ≡ max (deepest_value size-Value values) 0 + 1
 list-by bracket inner None = search (rules, the_lemmas)
 list-by bracket inner (Some last) = search (rules, the_lemmas)
 
-map-by : (brace : Visible 1) (inner : Vec (Setting × Comma)) (last : Option (Box Setting))
-    → let settings : Punctuated Setting Comma = record { inner = inner; last = last } in
+map-by : (brace : Visible 1) (inner : Vec (Setting × Token Comma)) (last : Option (Box Setting))
+    → let settings : Punctuated Setting (Token Comma) = record { inner = inner; last = last } in
     size-Value (Map brace settings) ≡ max (deepest_value size-Setting settings) 0 + 1
 map-by brace inner None = search (rules, the_lemmas)
 map-by brace inner (Some last) = search (rules, the_lemmas)

@@ -1,6 +1,5 @@
-use Rattle.std.proofs.Common.{◌∙◌, arith, sym, ap}
-use Rattle.syn_parse.specs.Takes.{found}
-use Rattle.example_config.proofs.Formed.{form_number}
+use Rattle.std.proofs.Common.{◌∙◌, arith, refl}
+use Rattle.example_config.proofs.Formed.{plain}
 use Rattle.example_config.proofs.Meanings.{says, with_suffix, without_suffix}
 use Rattle.example_config.proofs.read.unsuffixed.Goals as goal
 
@@ -8,7 +7,7 @@ pub returns-then-is_empty : goal.returns-then-is_empty
 returns-then-is_empty c = λ a.
     without_suffix c.args.span c.args.number c.args.suffix.now a
     (omega (arith, c.ranges.number.fits)) c.if-is_empty.ensures
-    ∙ ap (λ f. found f a) (sym (form_number c.args.span c.args.number))
+    ∙ simp plain refl
 
 pub returns-else-is_empty : goal.returns-else-is_empty
 returns-else-is_empty c = λ a.
