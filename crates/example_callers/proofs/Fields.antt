@@ -23,6 +23,7 @@ use Rattle.syn_parse.specs.Reads.{TreesRead}
 use Rattle.syn_parse.specs.State.{State, moved}
 use Rattle.syn_parse.specs.ErrorWords.{punctuation_message}
 use Rattle.syn_parse.proofs.Reading.{reads-value, reads-refused, reads-memory}
+use Rattle.syn_parse.specs.TokenNames.{Colon, Token}
 use Rattle.example_callers.specs.declared.streams.Field.{Field}
 use Rattle.example_callers.specs.Fields.{FieldParses, IsField}
 use Rattle.example_callers.specs.Fields.{field_message, name_message, read_colon}
@@ -118,7 +119,7 @@ module _ (s : State) where
 
   -- a field of which the name and the colon were read
   module _
-      (t u : State) (name : Ident) (colon : Punctuation 6 1)
+      (t u : State) (name : Ident) (colon : Token Colon)
       (h : IdentParses s (Ok name) t) (j : PunctuationTypeParses 6 1 t (Ok colon) u) where
     first : HasRead IsIdent (name_message s) s t (read_name s.place) name
     first = was_read IsIdent (name_message s) s t (read_name s.place) name h

@@ -4,20 +4,18 @@ use Rattle.either.specs.Either.{map_either}
 use Rattle.either.specs.declared.Either.{Either}
 use Rattle.tok_leaves.specs.declared.ident.Ident.{Ident}
 use Rattle.tok_leaves.specs.declared.literal.Literal.{Literal}
-use Rattle.tok_types.specs.declared.punctuation.Punctuation.{Punctuation}
 use Rattle.syn_choices.specs.Choices.{take_either}
 use Rattle.syn_parse.specs.Optional.{take_optional}
 use Rattle.syn_parse.specs.Sequences.{take_both, take_three}
 use Rattle.syn_parse.specs.Takes.{Taking, ◌>>=◌, gives}
-use Rattle.syn_parse.specs.TokenNames.{sees_eq, sees_lt, take_colon, take_const, take_eq, take_gt}
-use Rattle.syn_parse.specs.TokenNames.{take_lt, take_semi}
+use Rattle.syn_parse.specs.TokenNames.{Colon, Const, Eq, Gt, Lt, Semi, Token, sees, take}
 use Rattle.syn_parse.specs.Tokens.{take_ident, take_literal}
 use Rattle.example_callers.specs.declared.constant.Constant.{Constant}
 use Rattle.example_callers.specs.declared.constant.Head.{Head}
 
 -- the name, and the generics if there are any
 abbrev pub HeadForm : Type 0
-HeadForm = Ident × Option (Punctuation 20 1 × Ident × Punctuation 17 1)
+HeadForm = Ident × Option (Token Lt × Ident × Token Gt)
 
 -- a head as contracts see it
 abbrev pub head_form : Head → HeadForm
@@ -26,14 +24,14 @@ head_form h = (h.name, option_map (λ g. (g.0, g.1, g.2)) h.generics)
 -- `const name<T>`, where `<T>` may be missing
 unfoldable pub take_head : Taking HeadForm
 take_head = do
-  _ ← take_const
+  _ ← take Const
   name ← take_ident
-  generics ← take_optional sees_lt (take_three take_lt take_ident take_gt)
+  generics ← take_optional (sees Lt) (take_three (take Lt) take_ident (take Gt))
   gives (name, generics)
 
 -- the head and the body
 abbrev pub ConstantForm : Type 0
-ConstantForm = HeadForm × Either (Punctuation 13 1 × Literal) (Punctuation 6 1 × Ident)
+ConstantForm = HeadForm × Either (Token Eq × Literal) (Token Colon × Ident)
 
 -- a constant as contracts see it
 abbrev pub constant_form : Constant → ConstantForm
@@ -44,6 +42,7 @@ constant_form c =
 abbrev pub take_constant : Taking ConstantForm
 take_constant = do
   head ← take_head
-  body ← take_either sees_eq (take_both take_eq take_literal) (take_both take_colon take_ident)
-  _ ← take_semi
+  body ←
+      take_either (sees Eq) (take_both (take Eq) take_literal) (take_both (take Colon) take_ident)
+  _ ← take Semi
   gives (head, body)

@@ -3,7 +3,7 @@ use Rattle.tok_lexical.specs.declared.delimiter.Delimiter.TheVariants.{Bracket, 
 use Rattle.syn_parse.specs.Lighter.{lowering}
 use Rattle.syn_parse.specs.Takings.{Lowers}
 use Rattle.syn_parse.specs.Takes.{Taking, ◌>>=◌, gives, take_group}
-use Rattle.syn_parse.specs.TokenNames.{take_comma}
+use Rattle.syn_parse.specs.TokenNames.{Comma, take}
 use Rattle.syn_parse.specs.Tokens.{take_ident, take_literal}
 use Rattle.example_callers.specs.declared.entry.Call.{Call}
 use Rattle.example_callers.specs.declared.entry.Entry.{Entry}
@@ -14,7 +14,7 @@ use Rattle.example_callers.specs.declared.entry.Pair.{Pair}
 abbrev pub take_pair : Taking Pair
 take_pair = do
   name ← take_ident
-  _ ← take_comma
+  _ ← take Comma
   value ← take_literal
   gives (record { name = name; value = value })
 
@@ -26,9 +26,9 @@ lowers_pair = search lowering depth 20
 abbrev pub take_entry : Taking Entry
 take_entry = do
   name ← take_ident
-  _ ← take_comma
+  _ ← take Comma
   value ← take_literal
-  _ ← take_comma
+  _ ← take Comma
   tail ← take_group Parenthesis take_ident
   gives (record { name = name; value = value; tail = tail.1 })
 

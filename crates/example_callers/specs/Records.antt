@@ -2,12 +2,10 @@
 use Rattle.std.specs.Prelude.{List}
 use Rattle.tok_lexical.specs.declared.delimiter.Delimiter.TheVariants.{Brace}
 use Rattle.tok_leaves.specs.declared.ident.Ident.{Ident}
-use Rattle.tok_types.specs.declared.punctuation.Punctuation.{Punctuation}
 use Rattle.syn_parse.specs.Lighter.{lowering}
 use Rattle.syn_parse.specs.Takes.{Taking, ◌>>=◌, gives, take_group}
 use Rattle.syn_parse.specs.Takings.{Lowers}
-use Rattle.syn_parse.specs.TokenNames.{sees_path_sep, take_colon, take_comma, take_path_sep}
-use Rattle.syn_parse.specs.TokenNames.{take_struct}
+use Rattle.syn_parse.specs.TokenNames.{Colon, Comma, PathSep, Struct, Token, sees, take}
 use Rattle.syn_parse.specs.Tokens.{take_ident}
 use Rattle.syn_punctuated.specs.TakeLists.{list_form, take_separated, take_terminated}
 use Rattle.example_callers.specs.declared.records.Fields.{Fields}
@@ -19,7 +17,7 @@ use Rattle.example_callers.specs.declared.records.Record.{Record}
 abbrev pub take_member : Taking Member
 take_member = do
   name ← take_ident
-  _ ← take_colon
+  _ ← take Colon
   kind ← take_ident
   gives (record { name = name; kind = kind })
 
@@ -29,7 +27,7 @@ lowers_member = search lowering depth 20
 
 -- the members and the commas
 abbrev pub FieldsForm : Type 0
-FieldsForm = List Member × List (Punctuation 7 1)
+FieldsForm = List Member × List (Token Comma)
 
 -- fields as contracts see them
 abbrev pub fields_form : Fields → FieldsForm
@@ -37,7 +35,7 @@ fields_form f = list_form (λ v. v) (λ p. p) f.list
 
 -- members with commas between them; there may be one after the last
 abbrev pub take_fields : Taking FieldsForm
-take_fields = take_terminated take_member take_comma
+take_fields = take_terminated take_member (take Comma)
 
 -- the name and the fields
 abbrev pub record_form : Record → Ident × FieldsForm
@@ -46,14 +44,14 @@ record_form r = (r.name, fields_form r.fields)
 -- `struct name { members }`
 abbrev pub take_record : Taking (Ident × FieldsForm)
 take_record = do
-  _ ← take_struct
+  _ ← take Struct
   name ← take_ident
   fields ← take_group Brace take_fields
   gives (name, fields.1)
 
 -- the names and what is between them
 abbrev pub PathForm : Type 0
-PathForm = List Ident × List (Punctuation 28 2)
+PathForm = List Ident × List (Token PathSep)
 
 -- a path as contracts see it
 abbrev pub path_form : Path → PathForm
@@ -61,4 +59,4 @@ path_form p = list_form (λ v. v) (λ p. p) p.names
 
 -- names with `::` between them, at least one
 abbrev pub take_path : Taking PathForm
-take_path = take_separated sees_path_sep take_ident take_path_sep
+take_path = take_separated (sees PathSep) take_ident (take PathSep)

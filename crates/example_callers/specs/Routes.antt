@@ -3,9 +3,8 @@ use Rattle.std.specs.Prelude.{List}
 use Rattle.tok_lexical.specs.declared.delimiter.Delimiter.TheVariants.{Parenthesis}
 use Rattle.tok_leaves.specs.declared.ident.Ident.{Ident}
 use Rattle.tok_leaves.specs.declared.literal.Literal.{Literal}
-use Rattle.tok_types.specs.declared.punctuation.Punctuation.{Punctuation}
 use Rattle.syn_parse.specs.Takes.{Taking, ◌>>=◌, gives, take_group}
-use Rattle.syn_parse.specs.TokenNames.{take_comma, take_r_arrow, take_semi}
+use Rattle.syn_parse.specs.TokenNames.{Comma, RArrow, Semi, Token, take}
 use Rattle.syn_parse.specs.Tokens.{take_ident, take_literal}
 use Rattle.syn_punctuated.specs.TakeLists.{list_form, take_terminated}
 use Rattle.example_callers.specs.Records.{PathForm, path_form, take_path}
@@ -15,7 +14,7 @@ use Rattle.example_callers.specs.declared.route.Target.{Target}
 
 -- the names and the commas
 abbrev pub NamesForm : Type 0
-NamesForm = List Ident × List (Punctuation 7 1)
+NamesForm = List Ident × List (Token Comma)
 
 -- names as contracts see them
 abbrev pub names_form : Names → NamesForm
@@ -23,7 +22,7 @@ names_form n = list_form (λ v. v) (λ p. p) n.list
 
 -- names with commas between them; there may be one after the last
 abbrev pub take_names : Taking NamesForm
-take_names = take_terminated take_ident take_comma
+take_names = take_terminated take_ident (take Comma)
 
 -- a target as contracts see it
 abbrev pub target_form : Target → PathForm × NamesForm
@@ -34,7 +33,7 @@ unfoldable pub take_target : Taking (PathForm × NamesForm)
 take_target = do
   path ← take_path
   names ← take_group Parenthesis take_names
-  _ ← take_semi
+  _ ← take Semi
   gives (path, names.1)
 
 -- a route as contracts see it
@@ -46,6 +45,6 @@ abbrev pub take_route : Taking (Ident × Literal × (PathForm × NamesForm))
 take_route = do
   method ← take_ident
   pattern ← take_literal
-  _ ← take_r_arrow
+  _ ← take RArrow
   target ← take_target
   gives (method, pattern, target)

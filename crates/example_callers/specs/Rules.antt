@@ -4,8 +4,6 @@ use Rattle.tok_lexical.specs.declared.delimiter.Delimiter.TheVariants.{Brace, Br
 use Rattle.tok_leaves.specs.declared.ident.Ident.{Ident}
 use Rattle.tok_leaves.specs.declared.lifetime.Lifetime.{Lifetime}
 use Rattle.tok_leaves.specs.declared.literal.Literal.{Literal}
-use Rattle.tok_types.specs.declared.keyword.Keyword.{Keyword}
-use Rattle.tok_types.specs.declared.punctuation.Punctuation.{Punctuation}
 use Rattle.syn_parse.specs.After.{take_after}
 use Rattle.syn_parse.specs.Lighter.{lowering}
 use Rattle.syn_parse.specs.Many.{take_to_end, vec_form}
@@ -13,8 +11,8 @@ use Rattle.syn_parse.specs.Owned.{take_own}
 use Rattle.syn_parse.specs.Sequences.{take_three}
 use Rattle.syn_parse.specs.Takes.{Taking, ◌>>=◌, gives, take_group}
 use Rattle.syn_parse.specs.Takings.{Lowers}
-use Rattle.syn_parse.specs.TokenNames.{sees_where, take_colon, take_comma, take_eq, take_fat_arrow}
-use Rattle.syn_parse.specs.TokenNames.{take_not, take_path_sep, take_semi, take_where}
+use Rattle.syn_parse.specs.TokenNames.{Colon, Comma, Eq, FatArrow, Not, PathSep, Semi, Token, Where}
+use Rattle.syn_parse.specs.TokenNames.{sees, take}
 use Rattle.syn_parse.specs.Tokens.{take_ident, take_lifetime, take_literal}
 use Rattle.syn_punctuated.specs.TakeLists.{list_form, take_terminated}
 use Rattle.example_callers.specs.declared.rule.Assignment.{Assignment}
@@ -24,9 +22,9 @@ use Rattle.example_callers.specs.declared.rule.Rule.{Rule}
 unfoldable pub take_assignment : Taking Assignment
 take_assignment = do
   name ← take_ident
-  _ ← take_eq
+  _ ← take Eq
   value ← take_literal
-  _ ← take_semi
+  _ ← take Semi
   gives (record { name = name; value = value })
 
 -- less is ahead after an assignment
@@ -37,8 +35,8 @@ lowers_assignment = search lowering depth 20
 -- all that a rule is, but how its lists are stored
 abbrev pub RuleForm : Type 0
 RuleForm =
-    Ident × (List Literal × List (Punctuation 7 1)) × List Assignment × Lifetime × Ident × Ident
-    × Option (Keyword 51 × Ident)
+    Ident × (List Literal × List (Token Comma)) × List Assignment × Lifetime × Ident × Ident
+    × Option (Token Where × Ident)
 
 -- a rule as contracts see it
 abbrev pub rule_form : Rule → RuleForm
@@ -57,12 +55,12 @@ abbrev pub take_rule : Taking RuleForm
 take_rule = do
   _ ← take_own (codes "rule")
   name ← take_ident
-  _ ← take_colon
-  inputs ← take_group Bracket (take_terminated take_literal take_comma)
+  _ ← take Colon
+  inputs ← take_group Bracket (take_terminated take_literal (take Comma))
   assignments ← take_group Brace (take_to_end take_assignment)
-  _ ← take_fat_arrow
+  _ ← take FatArrow
   lifetime ← take_lifetime
-  path ← take_group Parenthesis (take_three take_ident take_path_sep take_ident)
-  guard ← take_after sees_where take_where take_ident
-  _ ← take_not
+  path ← take_group Parenthesis (take_three take_ident (take PathSep) take_ident)
+  guard ← take_after (sees Where) (take Where) take_ident
+  _ ← take Not
   gives (name, inputs.1, assignments.1, lifetime, path.1.0, path.1.2, guard)

@@ -3,7 +3,7 @@ use Rattle.std.specs.Prelude.{codes}
 use Rattle.tok_lexical.specs.declared.delimiter.Delimiter.TheVariants.{Brace, Parenthesis}
 use Rattle.syn_parse.specs.Owned.{take_own}
 use Rattle.syn_parse.specs.Takes.{Taking, ◌>>=◌, gives, take_group}
-use Rattle.syn_parse.specs.TokenNames.{take_as, take_colon, take_r_arrow, take_semi}
+use Rattle.syn_parse.specs.TokenNames.{As, Colon, RArrow, Semi, take}
 use Rattle.syn_parse.specs.Tokens.{take_ident}
 use Rattle.example_callers.specs.declared.service.Owner.{Owner}
 use Rattle.example_callers.specs.declared.service.Service.{Service}
@@ -12,7 +12,7 @@ use Rattle.example_callers.specs.declared.service.Service.{Service}
 unfoldable pub take_owner : Taking Owner
 take_owner = do
   name ← take_ident
-  _ ← take_colon
+  _ ← take Colon
   kind ← take_ident
   gives (record { name = name; kind = kind })
 
@@ -22,12 +22,12 @@ take_service = do
   _ ← take_own (codes "service")
   name ← take_ident
   owner ← take_group Parenthesis take_owner
-  _ ← take_as
+  _ ← take As
   alias ← take_ident
   options ← take_group Brace take_ident
-  _ ← take_r_arrow
+  _ ← take RArrow
   target ← take_ident
-  _ ← take_semi
+  _ ← take Semi
   gives (record {
     name = name;
     owner = owner.1;

@@ -4,8 +4,7 @@ use Rattle.syn_parse.specs.Optional.{take_optional}
 use Rattle.tok_leaves.specs.declared.ident.Ident.{Ident}
 use Rattle.syn_parse.specs.Skips.{sees_next}
 use Rattle.syn_parse.specs.Takes.{Taking, ◌>>=◌, gives, on_fork, where_ahead}
-use Rattle.syn_parse.specs.TokenNames.{sees_colon, sees_eq, sees_star, take_colon, take_eq}
-use Rattle.syn_parse.specs.TokenNames.{take_star}
+use Rattle.syn_parse.specs.TokenNames.{Colon, Eq, Star, sees, take}
 use Rattle.syn_parse.specs.Tokens.{take_ident, take_literal}
 use Rattle.example_callers.specs.declared.setting.Setting.{Setting}
 use Rattle.example_callers.specs.declared.setting.Flag.{Flag}
@@ -15,8 +14,8 @@ use Rattle.example_callers.specs.declared.setting.Field.{Field}
 abbrev pub take_setting : Taking Setting
 take_setting = do
   name ← take_ident
-  value ← where_ahead sees_eq (do
-    _ ← take_eq
+  value ← where_ahead (sees Eq) (do
+    _ ← take Eq
     value ← take_literal
     gives (Some value)) (gives None)
   gives (record { name = name; value = value })
@@ -24,7 +23,7 @@ take_setting = do
 -- a star if there is one, and a name
 abbrev pub take_flag : Taking Flag
 take_flag = do
-  star ← take_optional sees_star take_star
+  star ← take_optional (sees Star) (take Star)
   name ← take_ident
   gives (record { star = star; name = name })
 
@@ -32,16 +31,16 @@ take_flag = do
 abbrev pub take_field : Taking Field
 take_field = do
   name ← take_ident
-  _ ← take_colon
+  _ ← take Colon
   kind ← take_ident
   gives (record { name = name; kind = kind })
 
 -- a name, if the token after it is `:`, which is taken too
 abbrev pub take_label : Taking (Option Ident)
 take_label =
-    where_ahead (sees_next sees_colon) (do
+    where_ahead (sees_next (sees Colon)) (do
       name ← take_ident
-      _ ← take_colon
+      _ ← take Colon
       gives (Some name)) (gives None)
 
 -- a field, read on a fork

@@ -5,7 +5,7 @@ use Rattle.syn_parse.specs.Faults.{IsMemory, Refuses}
 use Rattle.syn_parse.specs.Reads.{Call}
 use Rattle.syn_parse.specs.State.{State}
 use Rattle.syn_parse.specs.Takes.{Taking, gives, refuses, where_ahead}
-use Rattle.syn_parse.specs.TokenNames.{sees_fn, sees_struct}
+use Rattle.syn_parse.specs.TokenNames.{Fn, Struct, sees}
 use Rattle.syn_parse.specs.ErrorWords.{refused_at}
 use Rattle.syn_parse.specs.declared.fault.Fault.{Fault}
 use Rattle.example_callers.specs.declared.streams.Kind.{Kind}
@@ -31,5 +31,5 @@ ChoosesKind s result t =
 -- the kind by the next keyword, which is left
 abbrev pub take_kind : Taking Kind
 take_kind =
-    where_ahead sees_fn (gives Function)
-    (where_ahead sees_struct (gives Structure) (refuses (codes "expected `fn` or `struct`")))
+    where_ahead (sees Fn) (gives Function)
+    (where_ahead (sees Struct) (gives Structure) (refuses (codes "expected `fn` or `struct`")))

@@ -5,11 +5,10 @@ use Rattle.tok_leaves.specs.declared.ident.Ident.{Ident}
 use Rattle.tok_leaves.specs.declared.literal.Literal.{Literal}
 use Rattle.tok_leaves.specs.declared.span.Span.{Span}
 use Rattle.tok_leaves.specs.Spans.{whole_span}
-use Rattle.tok_types.specs.declared.punctuation.Punctuation.{Punctuation}
 use Rattle.syn_parse.specs.Nested.{Descends, lightens_nested, nested_again, take_nested}
 use Rattle.syn_parse.specs.Takes.{Taking, ◌>>=◌, gives, take_group, where_ahead}
 use Rattle.syn_parse.specs.Takings.{Lightens, Takings, lighter, taken_filled, told_filled}
-use Rattle.syn_parse.specs.TokenNames.{take_comma}
+use Rattle.syn_parse.specs.TokenNames.{Comma, Token, take}
 use Rattle.syn_parse.specs.Tokens.{sees_group, sees_ident, take_ident, take_literal}
 use Rattle.syn_parse.specs.TreesAhead.{Ahead}
 use Rattle.syn_punctuated.specs.Lists.{values_of, separators_of}
@@ -25,7 +24,7 @@ mutual
   pub data Form : Type 0 where
     name : Ident → Form
     text : Literal → Form
-    list : Span → Forms → List (Punctuation 7 1) → Form
+    list : Span → Forms → List (Token Comma) → Form
 
   -- no value, or a first one and the others
   pub data Forms : Type 0 where
@@ -38,7 +37,7 @@ forms [] = none
 forms (f ∷ fs) = one_more f (forms fs)
 
 -- values within brackets of this span
-abbrev pub listed : Span → List Form × List (Punctuation 7 1) → Form
+abbrev pub listed : Span → List Form × List (Token Comma) → Form
 listed span values = list span (forms values.0) values.1
 
 -- a value, with the forms of those that it holds in their place
@@ -56,7 +55,7 @@ value_form = fold-Value Form one_level
 abbrev pub value_step : Taking Form → Taking Form
 value_step value =
     where_ahead (sees_group Bracket) (do
-      values ← take_group Bracket (take_terminated value take_comma)
+      values ← take_group Bracket (take_terminated value (take Comma))
       gives (listed values.0.join values.1)) (where_ahead sees_ident (do
         ident ← take_ident
         gives (name ident)) (do
@@ -84,5 +83,5 @@ abbrev pub values : Takings Value
 values = told_filled value_form take_value (lighter lightens_value)
 
 -- values with commas between them
-abbrev pub lists : Takings (Punctuated Value (Punctuation 7 1))
-lists = taken_filled (list_form value_form (λ p. p)) (take_terminated take_value take_comma)
+abbrev pub lists : Takings (Punctuated Value (Token Comma))
+lists = taken_filled (list_form value_form (λ p. p)) (take_terminated take_value (take Comma))

@@ -1,4 +1,5 @@
-//! Callers of `tok_buffer`: a walk with a cursor, and a lifetime read across an edge.
+//! Callers of `tok_buffer`, which move a cursor over tokens and read a lifetime across a delimiter
+//! of an invisible group.
 ghost use Rattle.std.specs.Prelude.{◌≡◌, ◌∷◌, [], MatchOption, Some, None};
 ghost use Rattle.tok_core.specs.Forest.{leaf};
 ghost use Rattle.tok_leaves.specs.Leaves.{ident_of};
@@ -10,7 +11,10 @@ ghost use Rattle.tok_core.specs.Seen.{lifetime_trees};
 use tok_buffer::Cursor;
 use tok_core::{Ident, Span};
 
-/// Reads two identifiers in turn, across the edges of invisible groups.
+/// Returns the next two identifiers and the cursor after them, or `None` if the next two tokens are
+/// not identifiers.
+///
+/// The call ignores the delimiters of invisible groups.
 pub fn pair_of_idents<'a>(cursor: Cursor<'a>) -> Option<(&'a Ident, &'a Ident, Cursor<'a>)>
     ensures { MatchOption result
         (read_then (read_ident (place_of cursor.entry)) read_ident ≡ None)
@@ -22,7 +26,10 @@ pub fn pair_of_idents<'a>(cursor: Cursor<'a>) -> Option<(&'a Ident, &'a Ident, C
     Some((first, second, rest))
 }
 
-/// Reads a lifetime of any name, even if its identifier is in an invisible group.
+/// Returns the span of the apostrophe and the name of the next lifetime, or `None` if no lifetime
+/// is next.
+///
+/// The lifetime may have any name, and the name may be in an invisible group.
 pub fn any_lifetime<'a>(cursor: Cursor<'a>) -> Option<(Span, &'a Ident)>
     ensures { MatchOption result
         (read_lifetime any_text (place_of cursor.entry) ≡ None)

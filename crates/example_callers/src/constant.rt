@@ -1,4 +1,5 @@
-//! A constant `const a<T> = 1;` or `const a: Kind;`, with two choices in the middle.
+//! A parser of constants such as `const a<T> = 1;` and `const a: Kind;`, with two choices in the
+//! middle.
 ghost use Rattle.syn_parse.specs.Takings.{taken_as};
 ghost use Rattle.example_callers.specs.Constants.{constant_form, head_form, take_constant, take_head};
 
@@ -8,16 +9,16 @@ use syn_parse::{Parse, ParseStream, Result};
 use tok_core::{Ident, Literal};
 use tok_types::token;
 
-/// A name between `<` and `>`.
+/// A name between `<` and `>`, such as `<T>`.
 pub type Generics = (token::Lt, Ident, token::Gt);
 
-/// A value after `=`.
+/// A value after `=`, such as `= 1`.
 pub type Value = (token::Eq, Literal);
 
-/// A kind after a colon.
+/// A kind after a colon, such as `: Kind`.
 pub type Kind = (token::Colon, Ident);
 
-/// A constant's name, and its generics if it has them.
+/// The name of a constant, and its generics if there are any.
 #[derive(Drop)]
 pub struct Head {
     pub name: Ident,
@@ -36,7 +37,7 @@ impl Parse for Head {
     }
 }
 
-/// A constant.
+/// A constant, such as `const a<T> = 1;`.
 #[derive(Drop)]
 pub struct Constant {
     pub head: Head,

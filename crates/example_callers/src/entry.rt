@@ -1,4 +1,5 @@
-//! Types that state what they take, and their parsers.
+//! Types whose contracts state from which tokens they are parsed, and functions that parse these
+//! types.
 ghost use Rattle.std.specs.Prelude.{◌≡◌, true};
 ghost use Rattle.std.specs.Str.{chars};
 ghost use Rattle.tok_leaves.specs.Spans.{call_site};
@@ -16,7 +17,7 @@ use syn_parse::{Parse, ParseStream, Result, bracketed, parse_both, parse_text, p
 use tok_core::{Delimiter, Ident, Literal, TokenStream};
 use tok_types::token;
 
-/// A pair `name , value`.
+/// A pair of the form `name , value`.
 #[derive(Drop)]
 pub struct Pair {
     pub name: Ident,
@@ -34,7 +35,7 @@ impl Parse for Pair {
     }
 }
 
-/// An entry `name , value , (tail)`.
+/// An entry of the form `name , value , (tail)`.
 #[derive(Drop)]
 pub struct Entry {
     pub name: Ident,
@@ -60,7 +61,7 @@ impl Parse for Entry {
     }
 }
 
-/// A value in parentheses after a name: `name (value)`.
+/// A name with a value in parentheses after it: `name (value)`.
 #[derive(Drop)]
 pub struct Call {
     pub name: Ident,
@@ -77,7 +78,8 @@ impl Parse for Call {
     }
 }
 
-/// A value in brackets after a name, read by a macro: `name [value]`.
+/// A name with a value in brackets after it: `name [value]`. The parser enters the brackets with a
+/// macro.
 #[derive(Drop)]
 pub struct Mark {
     pub name: Ident,
@@ -101,21 +103,26 @@ impl Parse for Mark {
     }
 }
 
-/// Parses all of these tokens as an entry.
+/// Parses all tokens of a stream as an entry.
 pub fn parse_entry(alloc: Global, tokens: TokenStream) -> Result<Entry>
     ensures { TakesAll (λ v. v) take_entry tokens call_site result }
 {
     parse2(alloc, tokens)
 }
 
-/// Parses the text of a source as an entry. An error at the end is behind the last token.
+/// Parses `text`, which has the source number `number`, as an entry.
+///
+/// An error at the end of the text is located after the last token.
 pub fn parse_entry_text(alloc: Global, number: u32, text: &str) -> Result<Entry>
     ensures { KeepsTextOf number (taken take_entry) (chars text.now) result }
 {
     parse_text(alloc, number, text)
 }
 
-/// Parses two streams as entries. If they differ only in invisible groups, the results agree.
+/// Parses two streams, `left` and `right`, as entries.
+///
+/// If the streams differ only in their invisible groups, then either both results are the same
+/// entry, or both are errors, unless an allocation fails.
 pub fn parse_entry_both(
     alloc: Global,
     left: TokenStream,

@@ -1,4 +1,5 @@
-//! Callers of the libraries, as a user would write them, proved from public contracts alone.
+//! Examples of callers of the libraries, written as a user would write them. Their proofs use only
+//! public contracts.
 #![tactic(auto)]
 
 pub mod buffer;

@@ -1,4 +1,4 @@
-//! Callers of the list parsers: names between commas, and items within items.
+//! Callers of the list parsers. They parse names with commas between them, and nested items.
 ghost use Rattle.std.specs.Prelude.{◌≡◌, true, IfOk};
 ghost use Rattle.tok_buffer.specs.Place.{is_at_end};
 ghost use Rattle.example_callers.specs.Lists.{IsItem};
@@ -11,13 +11,13 @@ use tok_buffer::laws::entries_go_on;
 use tok_core::{Delimiter, Ident};
 use tok_types::token;
 
-/// Names with a comma between each two.
+/// A list of names with commas between them.
 pub type Names = Punctuated<Ident, token::Comma>;
 
-/// Parses names between commas, to the end of the stream.
+/// Parses names with commas between them, up to the end of the stream.
 ///
-/// The visible trees that were left are these names and commas in turn, whether in invisible groups
-/// or not.
+/// The names and commas that are parsed are the remaining visible tokens of the stream, in order.
+/// These tokens may be in invisible groups.
 pub fn names(input: ParseStream<'_, '_>) -> Result<Names>
     ensures trees { IfOk result
         (λ list. PassesList ident_sources punctuation_sources list input.old input.new) }
@@ -28,7 +28,7 @@ pub fn names(input: ParseStream<'_, '_>) -> Result<Names>
     Punctuated::parse_terminated(input)
 }
 
-/// A name, or items between parentheses.
+/// An item, which is either a name or a list of items in parentheses.
 #[cycle(items)]
 #[derive(Drop)]
 pub enum Item {
@@ -36,14 +36,14 @@ pub enum Item {
     List(token::Paren, Items),
 }
 
-/// Items between commas.
+/// A list of items with commas between them.
 #[cycle(items)]
 #[derive(Drop)]
 pub struct Items {
     pub list: Punctuated<Item, token::Comma>,
 }
 
-/// Parses items to the end of the stream.
+/// Parses items up to the end of the stream.
 #[cycle(parsing)]
 pub fn parse_items(input: ParseStream<'_, '_>) -> Result<Items>
     ensures { IfOk result (λ _. is_at_end input.new.place ≡ true) }
@@ -52,7 +52,9 @@ pub fn parse_items(input: ParseStream<'_, '_>) -> Result<Items>
     Ok(Items { list })
 }
 
-/// Parses one item. Less remains within a group than before it, so items within items end.
+/// Parses one item.
+///
+/// The recursion ends, because fewer buffer entries remain inside a group than before the group.
 #[cycle(parsing)]
 pub fn parse_item(input: ParseStream<'_, '_>) -> Result<Item>
     ensures { IfOk result (λ item. IsItem input.old item input.new) }

@@ -1,7 +1,7 @@
 //! Loops over a cursor.
 //!
-//! The laws of `tok_buffer` say that each read stays in the scope and lowers what remains, so the
-//! loops end, and the cursors that they return are in the scope.
+//! Each read of a cursor stays in the cursor's scope and decreases `remaining`, as the laws of
+//! `tok_buffer` state. Therefore, the loops end, and return cursors in the same scope.
 ghost use Rattle.std.specs.Prelude.{◌≡◌, ◌∷◌, [], true, None, Some, IfOk, IfSome, MatchOption};
 ghost use Rattle.tok_core.specs.Forest.{Tree};
 ghost use Rattle.tok_core.specs.Seen.{tree_of};
@@ -16,7 +16,9 @@ use tok_buffer::Cursor;
 use tok_buffer::laws::{reads_go_on, stays_along};
 use tok_core::TokenTree;
 
-/// Returns the cursor after all identifiers that are next, across the edges of invisible groups.
+/// Skips identifiers up to the next token of another kind, and returns the cursor at this token.
+///
+/// The call ignores the delimiters of invisible groups.
 #[tactic(auto, using(crate::specs::Loops::none))]
 pub fn past_idents<'a>(cursor: Cursor<'a>) -> Cursor<'a>
     ensures passes { PassesIdents (place_of cursor.entry) (place_of result) }
@@ -32,8 +34,9 @@ pub fn past_idents<'a>(cursor: Cursor<'a>) -> Cursor<'a>
     after
 }
 
-/// Returns the cursor after the first `@` of the scope, or `None` if there is none. It doesn't look
-/// inside groups.
+/// Returns the cursor after the first `@` in the scope, or `None` if the scope contains no `@`.
+///
+/// The call does not search inside groups. Returns an error if an allocation fails.
 #[tactic(auto, using(crate::specs::Loops::no_more))]
 pub fn past_sign<'a>(alloc: Global, cursor: Cursor<'a>) -> Result<Option<Cursor<'a>>, AllocError>
     ensures finds { IfOk result (λ found. (p : Place) × PassesOthers (place_of cursor.entry) p

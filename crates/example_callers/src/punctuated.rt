@@ -1,5 +1,4 @@
-//! A caller of `syn_punctuated`: it builds `2, 3, 4`, edits the list and writes it with its
-//! separators.
+//! Callers of `syn_punctuated`, which build the list `2, 3, 4`, change it, and write it as a text.
 ghost use Rattle.std.specs.Prelude.{◌≡◌, ◌-◌, ◌<◌, ◌^◌, [], ◌∷◌, length, slice_set, string_bytes, sum, IfOk, OnOk, OnErr};
 ghost use Rattle.std.specs.Bool.{OnTrue, OnFalse};
 ghost use Rattle.syn_punctuated.specs.Lists.{values_of, separators_of, IsUnchanged};
@@ -10,7 +9,7 @@ use syn_punctuated::Punctuated;
 
 type Numbers = Punctuated<u32, char>;
 
-/// Returns the list `2,3,4`.
+/// Creates the list `2,3,4`. Returns an error if an allocation fails.
 pub fn two_three_four(alloc: Global) -> Result<Numbers, AllocError>
     ensures values { IfOk result (λ list. values_of list ≡ 2 ∷ 3 ∷ 4 ∷ []) }
     ensures separators { IfOk result (λ list. separators_of list ≡ 44 ∷ 44 ∷ []) }
@@ -24,7 +23,11 @@ pub fn two_three_four(alloc: Global) -> Result<Numbers, AllocError>
     Ok(list)
 }
 
-/// Writes 9 over the first value.
+/// Replaces the first value of the list with 9.
+///
+/// # Requires
+///
+/// The list must not be empty.
 pub fn raise_first(list: &mut Numbers)
     requires { 0 < length (values_of list.old) }
     ensures values { values_of list.new ≡ slice_set (values_of list.old) 0 9 }
@@ -33,7 +36,9 @@ pub fn raise_first(list: &mut Numbers)
     list[0] = 9;
 }
 
-/// Writes 8 over the last value, if there is one, and returns whether there is.
+/// Replaces the last value of the list with 8, and returns `true`.
+///
+/// If the list is empty, returns `false`.
 pub fn raise_last(list: &mut Numbers) -> bool
     ensures any { OnTrue result (0 < length (values_of list.old)) }
     ensures written { OnTrue result
@@ -51,7 +56,11 @@ pub fn raise_last(list: &mut Numbers) -> bool
     }
 }
 
-/// Inserts 7 before all values.
+/// Inserts 7 at the start of the list. If an allocation fails, the list is unchanged.
+///
+/// # Requires
+///
+/// The list must not be empty.
 pub fn put_seven(list: &mut Numbers) -> Result<(), AllocError>
     requires { 0 < length (values_of list.old) }
     ensures ok { OnOk result (values_of list.new ≡ 7 ∷ values_of list.old) }
@@ -61,6 +70,10 @@ pub fn put_seven(list: &mut Numbers) -> Result<(), AllocError>
 }
 
 /// Returns the sum of the values.
+///
+/// # Requires
+///
+/// The sum must be less than 2^32.
 pub fn total(list: &Numbers) -> u32
     requires { sum (values_of list.now) < 2 ^ 32 }
     ensures { result ≡ sum (values_of list.now) }
@@ -68,7 +81,7 @@ pub fn total(list: &Numbers) -> u32
     list.iter().copied().sum()
 }
 
-/// Writes the values and separators in turn, as a text.
+/// Returns a text that consists of the values and separators of the list, in order.
 pub fn written(alloc: Global, list: &Numbers) -> Result<String, AllocError>
     ensures { IfOk result
         (λ text. string_bytes text ≡ text_of (values_of list.now) (separators_of list.now)) }

@@ -1,4 +1,5 @@
-//! Lists by the visible trees ahead: fields of a record, and a path.
+//! Lists whose contracts state from which visible token trees they are parsed: the fields of a
+//! record, and a path.
 ghost use Rattle.syn_parse.specs.Takings.{lower, taken_as, taken_filled, told};
 ghost use Rattle.example_callers.specs.Records.{fields_form, lowers_member, path_form, record_form, take_fields, take_member, take_path, take_record};
 
@@ -8,7 +9,7 @@ use syn_punctuated::Punctuated;
 use tok_core::{Delimiter, Ident};
 use tok_types::token;
 
-/// A field `name: Kind`.
+/// A field of the form `name: Kind`.
 #[derive(Drop)]
 pub struct Member {
     pub name: Ident,
@@ -26,7 +27,7 @@ impl Parse for Member {
     }
 }
 
-/// Fields with a comma after each, which the last one may lack.
+/// A list of fields with commas between them, and an optional comma after the last field.
 #[derive(Drop)]
 pub struct Fields {
     pub list: Punctuated<Member, token::Comma>,
@@ -42,7 +43,7 @@ impl Parse for Fields {
     }
 }
 
-/// A record `struct Name { field: Kind, .. }`.
+/// A record of the form `struct Name { field: Kind, .. }`.
 #[derive(Drop)]
 pub struct Record {
     pub name: Ident,
@@ -60,7 +61,7 @@ impl Parse for Record {
     }
 }
 
-/// A path `a::b::c`, of at least one name.
+/// A path of one or more names, such as `a::b::c`.
 #[derive(Drop)]
 pub struct Path {
     pub names: Punctuated<Ident, token::PathSep>,

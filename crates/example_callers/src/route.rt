@@ -1,4 +1,4 @@
-//! A route `get "/users" -> users::list (page, size);`.
+//! A parser of routes such as `get "/users" -> users::list (page, size);`.
 ghost use Rattle.syn_parse.specs.Takings.{taken_filled};
 ghost use Rattle.example_callers.specs.Routes.{names_form, route_form, take_names, take_route, take_target, target_form};
 
@@ -9,7 +9,7 @@ use syn_punctuated::Punctuated;
 use tok_core::{Delimiter, Ident, Literal};
 use tok_types::token;
 
-/// Names with a comma after each, which the last one may lack.
+/// A list of names with commas between them, and an optional comma after the last name.
 #[derive(Drop)]
 pub struct Names {
     pub list: Punctuated<Ident, token::Comma>,
@@ -25,7 +25,7 @@ impl Parse for Names {
     }
 }
 
-/// A path and its arguments, `users::list (page, size);`.
+/// A path with arguments after it, such as `users::list (page, size);`.
 #[derive(Drop)]
 pub struct Target {
     pub path: Path,
@@ -44,7 +44,7 @@ impl Parse for Target {
     }
 }
 
-/// A method, a pattern, and a target.
+/// A route, which consists of a method, a pattern and a target.
 #[derive(Drop)]
 pub struct Route {
     pub method: Ident,

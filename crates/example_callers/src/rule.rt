@@ -1,5 +1,6 @@
-//! A rule `rule a: ["x", 1] { b = 2; c = 3; } => 'd (e::f) where g!`, with a list, a loop and a path in
-//! groups, and an option in the middle, by two types.
+//! A parser of rules such as `rule a: ["x", 1] { b = 2; c = 3; } => 'd (e::f) where g!`. It parses
+//! a list, repeated assignments and a path in groups. An optional part is in the middle of the
+//! rule.
 ghost use Rattle.syn_parse.specs.Takings.{lower, taken_filled, told};
 ghost use Rattle.example_callers.specs.Rules.{lowers_assignment, rule_form, take_assignment, take_rule};
 
@@ -11,7 +12,7 @@ use tok_buffer::Lifetime;
 use tok_core::{Delimiter, Ident, Literal};
 use tok_types::token;
 
-/// An assignment `name = value;`.
+/// An assignment of the form `name = value;`.
 #[derive(Drop)]
 pub struct Assignment {
     pub name: Ident,
@@ -31,7 +32,7 @@ impl Parse for Assignment {
     }
 }
 
-/// A rule.
+/// A rule, such as `rule a: ["x", 1] { b = 2; c = 3; } => 'd (e::f) where g!`.
 #[derive(Drop)]
 pub struct Rule {
     pub name: Ident,

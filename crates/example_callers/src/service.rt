@@ -1,5 +1,5 @@
-//! A service `service api (owner: Team) as web { options } -> target;`, with two groups in the
-//! middle.
+//! A parser of services such as `service api (owner: Team) as web { options } -> target;`, with two
+//! groups in the middle.
 ghost use Rattle.std.specs.Prelude.{codes};
 ghost use Rattle.syn_parse.specs.Takings.{taken, taken_filled};
 ghost use Rattle.example_callers.specs.Services.{take_owner, take_service};
@@ -8,7 +8,7 @@ use syn_parse::{Own, Parse, ParseStream, Result, Word};
 use tok_core::{Delimiter, Ident};
 use tok_types::token;
 
-/// The text of `ServiceKeyword`.
+/// The word `service`, for the token type `Own<ServiceWord>`.
 pub struct ServiceWord;
 
 impl Word for ServiceWord {
@@ -19,10 +19,10 @@ impl Word for ServiceWord {
     }
 }
 
-/// The keyword `service`, with which a service begins.
+/// The keyword `service`, which begins a service.
 pub type ServiceKeyword = Own<ServiceWord>;
 
-/// An owner and what it is, `owner: Team`.
+/// An owner and the kind of the owner, such as `owner: Team`.
 #[derive(Drop)]
 pub struct Owner {
     pub name: Ident,
@@ -41,7 +41,7 @@ impl Parse for Owner {
     }
 }
 
-/// The names of a service `service name (owner: Kind) as alias { options } -> target;`.
+/// The names in a service such as `service api (owner: Team) as web { options } -> target;`.
 #[derive(Drop)]
 pub struct Service {
     pub name: Ident,

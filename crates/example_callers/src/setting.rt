@@ -1,4 +1,5 @@
-//! A value that may be missing, by a peek and by an `Option`, and a field tried on a fork.
+//! Parsers of optional values, which use a peek or an `Option`, and a parser that tries a field on
+//! a fork.
 ghost use Rattle.std.specs.Prelude.{◌≡◌, OnErr};
 ghost use Rattle.syn_parse.specs.Takes.{Takes};
 ghost use Rattle.syn_parse.specs.Takings.{taken};
@@ -9,7 +10,7 @@ use syn_parse::{Parse, ParseStream, Result};
 use tok_core::{Ident, Literal};
 use tok_types::token;
 
-/// A name, and a value after `=` if there is one.
+/// A name, and optionally a value after `=`.
 #[derive(Drop)]
 pub struct Setting {
     pub name: Ident,
@@ -29,7 +30,7 @@ pub fn read_setting(input: ParseStream<'_, '_>) -> Result<Setting>
     Ok(Setting { name, value })
 }
 
-/// A name, with a star before it or not.
+/// A name, optionally with a star before it.
 #[derive(Drop)]
 pub struct Flag {
     pub star: Option<token::Star>,
@@ -46,7 +47,7 @@ impl Parse for Flag {
     }
 }
 
-/// A field `name: Kind`.
+/// A field of the form `name: Kind`.
 #[derive(Drop)]
 pub struct Field {
     pub name: Ident,
@@ -64,7 +65,8 @@ impl Parse for Field {
     }
 }
 
-/// Reads a label `name:`, if the token after the next one is `:`.
+/// Parses a label of the form `name:` if the token after the next token is `:`, and returns `None`
+/// otherwise.
 pub fn read_label(input: ParseStream<'_, '_>) -> Result<Option<Ident>>
     ensures { Takes take_label input.old result input.new }
 {
@@ -77,7 +79,9 @@ pub fn read_label(input: ParseStream<'_, '_>) -> Result<Option<Ident>>
     }
 }
 
-/// Reads a field on a fork, and moves to the fork if it is one. An error leaves the stream as it was.
+/// Parses a field on a fork, and advances the stream to the fork if the parser succeeds.
+///
+/// If the call returns an error, the stream is unchanged.
 pub fn try_field(input: ParseStream<'_, '_>) -> Result<Field>
     ensures takes { Takes take_tried input.old result input.new }
     ensures stays { OnErr result (input.new ≡ input.old) }

@@ -1,5 +1,5 @@
-//! Callers of `syn_parse`: a field by the trees it is parsed from, a choice, a try on a fork, a step,
-//! and a parser that calls itself.
+//! Callers of `syn_parse`, which parse a field, choose by lookahead, try a parser on a fork, and
+//! call `step`. One of the parsers is recursive.
 ghost use Rattle.std.specs.Prelude.{◌<◌, IfOk, codes};
 ghost use Rattle.tok_buffer.specs.Progress.{remaining};
 ghost use Rattle.tok_buffer.specs.Reads.{read_tree};
@@ -17,7 +17,7 @@ use tok_buffer::laws::{entries_go_on, reads_go_on, reads_keep_scope};
 use tok_core::{Delimiter, Ident, TokenTree};
 use tok_types::token;
 
-/// A field `name: Kind`.
+/// A field of the form `name: Kind`.
 #[derive(Drop)]
 pub struct Field {
     pub name: Ident,
@@ -36,14 +36,16 @@ fn parse_field(input: ParseStream<'_, '_>) -> Result<Field>
     })
 }
 
-/// The kind of the next item.
+/// The kind of an item: a function or a structure.
 #[derive(Clone, Copy, PartialEq, Eq)]
 pub enum Kind {
     Function,
     Structure,
 }
 
-/// Returns the kind of the next item by its keyword, which stays unread: a choice by lookahead.
+/// Returns the kind of the next item.
+///
+/// A lookahead chooses the kind by the keyword of the item. The keyword remains unread.
 pub fn next_kind(input: ParseStream<'_, '_>) -> Result<Kind>
     ensures chooses { ChoosesKind input.old result input.new }
     ensures takes { Takes take_kind input.old result input.new }
@@ -58,7 +60,7 @@ pub fn next_kind(input: ParseStream<'_, '_>) -> Result<Kind>
     }
 }
 
-/// Parses the next tree, by a step over the stream's cursor.
+/// Parses the next token tree by calling `step` on the stream.
 pub fn next_tree(input: ParseStream<'_, '_>) -> Result<TokenTree>
     ensures { TreeParses input.old result input.new }
 {
@@ -77,7 +79,9 @@ pub fn next_tree(input: ParseStream<'_, '_>) -> Result<TokenTree>
     )
 }
 
-/// Parses a field, or returns `None` and stays if none is next: a try on a fork.
+/// Parses a field on a fork, or returns `None` if no field is next.
+///
+/// If no field is next, the stream does not move.
 pub fn optional_field(input: ParseStream<'_, '_>) -> Result<Option<Field>>
     ensures { OptionalFieldParses input.old result input.new }
 {
@@ -99,9 +103,11 @@ pub fn optional_field(input: ParseStream<'_, '_>) -> Result<Option<Field>>
     }
 }
 
-/// Counts the names of an entry, a name or a list of entries in parentheses: 3 in `(a (b) ((c)))`.
+/// Counts the names in an entry, which is a name or a list of entries in parentheses.
 ///
-/// It counts up to `u64::MAX` names. Where an error leaves the stream isn't specified.
+/// For example, the entry `(a (b) ((c)))` contains 3 names. The count does not exceed `u64::MAX`.
+///
+/// The contract does not say where the stream is after an error.
 #[cycle(nested)]
 #[tactic(auto, unfolding(syn_parse::specs::Reads::Does))]
 pub fn count_names(input: ParseStream<'_, '_>) -> Result<u64>

@@ -1,5 +1,4 @@
-//! Callers of `tok_types`: a token of the caller's own, a peek of two tokens, and tokens that are
-//! written.
+//! Callers of `tok_types`, which define a token, peek at two tokens, and write tokens.
 ghost use Rattle.std.specs.Prelude.{◌≡◌, ◌||◌, ◌&&◌, Bool, codes, is_some, OnOk};
 ghost use Rattle.tok_core.specs.Forest.{group, concat, leaf, no_trees, tree};
 ghost use Rattle.tok_leaves.specs.Leaves.{ident};
@@ -16,8 +15,9 @@ use tok_core::{ToTokens, TokenStream};
 use tok_types::token;
 use tok_types::token::Token;
 
-/// A word that is a keyword to this caller alone. Such a type needs no more than these two
-/// functions.
+/// A word that is a keyword only for this caller.
+///
+/// To declare such a word, implement the two functions of `Token`.
 pub struct Sealed;
 
 impl Token for Sealed {
@@ -30,7 +30,7 @@ impl Token for Sealed {
     }
 }
 
-/// Returns `true` if one of two tokens is next.
+/// Returns `true` if `A` or `B` is next.
 pub fn either<A: Token, B: Token>(cursor: Cursor<'_>) -> bool
     ensures { (a : Bool) × (b : Bool) × A.peeks (place_of cursor.entry) a
         × B.peeks (place_of cursor.entry) b × (result ≡ (a || b)) }
@@ -40,7 +40,7 @@ pub fn either<A: Token, B: Token>(cursor: Cursor<'_>) -> bool
     first || second
 }
 
-/// Returns `true` if `pub` is next and parentheses follow it, as in `pub (crate)`.
+/// Returns `true` if `pub` is the next token and parentheses come after it, as in `pub (crate)`.
 pub fn is_restricted(cursor: Cursor<'_>) -> bool
     ensures { result ≡ (is_some (read_keyword (codes "pub") (place_of cursor.entry))
         && after_skip (λ p. is_some (enter Parenthesis p)) (skip (place_of cursor.entry))) }
@@ -59,7 +59,7 @@ fn write_crate(tokens: &mut TokenStream) -> Result<(), AllocError>
     token::Crate::default().to_tokens(tokens)
 }
 
-/// Writes `pub (crate)`.
+/// Appends the tokens `pub (crate)` to `tokens`.
 pub fn write_restricted(tokens: &mut TokenStream) -> Result<(), AllocError>
     ensures { OnOk result (tokens.new ≡ concat tokens.old
         (tree (leaf (ident (codes "pub") call_site))

@@ -1,4 +1,5 @@
-//! A caller of `tok_core`: it builds `a (b «c») +=` by hand, and prints it.
+//! A caller of `tok_core`, which builds the token stream `a (b «c») +=` by hand and prints the
+//! stream.
 ghost use Rattle.std.specs.Prelude.{◌≡◌, true, IfErr, IfOk, IsOk, string_bytes};
 ghost use Rattle.std.specs.Str.{chars};
 ghost use Rattle.tok_core.specs.Forest.{group, leaf};
@@ -36,7 +37,9 @@ fn group(delimiter: Delimiter, content: TokenStream) -> TokenTree
     TokenTree::Group(Group::new(delimiter, content, Span::call_site()))
 }
 
-/// Builds `a (b «c») +=`. Only a failed allocation is an error.
+/// Builds the token stream `a (b «c») +=`.
+///
+/// Returns an error only if an allocation fails.
 pub fn by_hand(alloc: Global) -> Result<TokenStream, MakeFault>
     ensures made { IfOk result (λ stream. stream ≡ by_hand) }
     ensures fault { IfErr result (λ fault. fault ≡ MakeFault.Memory) }
@@ -54,7 +57,7 @@ pub fn by_hand(alloc: Global) -> Result<TokenStream, MakeFault>
     Ok(all)
 }
 
-/// Returns the text of a stream.
+/// Returns the text of a token stream.
 pub fn printed(alloc: Global, stream: &TokenStream) -> Result<String, AllocError>
     ensures { IfOk result (λ printed. string_bytes printed ≡ text stream.now) }
 {

@@ -1,4 +1,4 @@
-//! A value that holds values: a name, a literal, or values in brackets.
+//! A parser of values that can contain other values.
 ghost use Rattle.syn_parse.specs.Takings.{Keeps};
 ghost use Rattle.example_callers.specs.Values.{lists, values};
 
@@ -8,7 +8,7 @@ use syn_punctuated::Punctuated;
 use tok_core::{Ident, Literal};
 use tok_types::token;
 
-/// A name, a literal, or values in brackets: `[a, [1, b], []]`.
+/// A value, which is a name, a literal, or a list of values in brackets, such as `[a, [1, b], []]`.
 #[derive(Drop)]
 pub enum Value {
     Name(Ident),

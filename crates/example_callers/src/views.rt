@@ -1,4 +1,5 @@
-//! A caller of the laws of views: what it returns does not depend on invisible groups.
+//! A caller of the laws that compare cursors without their invisible groups. Its result does not
+//! depend on invisible groups.
 ghost use Rattle.std.specs.Prelude.{◌≡◌};
 ghost use Rattle.example_callers.specs.Views.{IsSame, is_name_second};
 ghost use Rattle.tok_buffer.specs.Cursors.{place_of};
@@ -16,10 +17,11 @@ fn is_name_second(cursor: Cursor<'_>) -> bool
     }
 }
 
-/// Returns whether a name comes after the next token, at one cursor and at another.
+/// Returns, for each of the cursors `left` and `right`, whether a name comes after the next token.
 ///
-/// At places of filled buffers that differ only in invisible groups both are the same, even after a
-/// lifetime whose name is in a group of its own.
+/// Suppose that each invisible group in both buffers contains a visible token, and that the
+/// positions of the cursors differ only in invisible groups. Then both results are equal. They are
+/// equal even if the next token is a lifetime whose name is in an invisible group of its own.
 pub fn names_second(left: Cursor<'_>, right: Cursor<'_>) -> (bool, bool)
     ensures left { result.0 ≡ is_name_second (place_of left.entry) }
     ensures right { result.1 ≡ is_name_second (place_of right.entry) }

@@ -1,10 +1,11 @@
 -- The form of a type whose arguments are types.
 use Rattle.std.proofs.Common.{◌≡◌, refl}
 use Rattle.tok_leaves.specs.declared.ident.Ident.{Ident}
+use Rattle.syn_parse.specs.TokenNames.{Comma, Gt, Lt, Token}
 use Rattle.syn_punctuated.proofs.Mapped.{list_formed}
 use Rattle.syn_punctuated.specs.TakeLists.{list_form}
 use Rattle.syn_punctuated.specs.declared.punctuated.Punctuated.{Punctuated}
-use Rattle.example_grammar.specs.NamedTypes.{Comma, Form, Gt, Lt, one_level, type_again, type_form}
+use Rattle.example_grammar.specs.NamedTypes.{Form, one_level, type_again, type_form}
 use Rattle.example_grammar.specs.NamedTypes.{with_arguments}
 use Rattle.example_grammar.specs.declared.named_type.NamedType.{NamedType}
 use Rattle.example_grammar.specs.declared.named_type.NamedType.TheFolds.{fold_out-NamedType}
@@ -12,7 +13,8 @@ use Rattle.example_grammar.specs.declared.named_type.NamedType.TheFolds.{fold-ro
 use Rattle.example_grammar.specs.declared.named_type.NamedType.TheOpen.{NamedType-F}
 use Rattle.example_grammar.specs.declared.named_type.NamedType.TheVariants as made
 
-pub form_generic : (name : Ident) (left : Lt) (right : Gt) (list : Punctuated NamedType Comma)
+pub form_generic : (name : Ident) (left : Token Lt) (right : Token Gt)
+    (list : Punctuated NamedType (Token Comma))
     → type_form (made.Generic name left list right)
     ≡ with_arguments name (left, list_form type_form (λ p. p) list, right)
 form_generic name left right =

@@ -1,7 +1,7 @@
 -- Settings that `;` ends.
 use Rattle.std.specs.Prelude.{None, Some}
 use Rattle.syn_parse.specs.Takes.{Taking, ◌>>=◌, gives, where_ahead}
-use Rattle.syn_parse.specs.TokenNames.{sees_eq, take_eq, take_semi}
+use Rattle.syn_parse.specs.TokenNames.{Eq, Semi, sees, take}
 use Rattle.syn_parse.specs.Tokens.{take_ident, take_literal}
 use Rattle.example_grammar.specs.declared.ended.Setting.{Setting}
 
@@ -9,9 +9,9 @@ use Rattle.example_grammar.specs.declared.ended.Setting.{Setting}
 abbrev pub take_setting : Taking Setting
 take_setting = do
   name ← take_ident
-  value ← where_ahead sees_eq (do
-    _ ← take_eq
+  value ← where_ahead (sees Eq) (do
+    _ ← take Eq
     value ← take_literal
     gives (Some value)) (gives None)
-  _ ← take_semi
+  _ ← take Semi
   gives (record { name = name; value = value })

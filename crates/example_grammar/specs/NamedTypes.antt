@@ -1,11 +1,10 @@
 -- Types whose arguments are types, between `<` and `>`.
 use Rattle.std.specs.Prelude.{◌≡◌, List, [], ◌∷◌}
 use Rattle.tok_leaves.specs.declared.ident.Ident.{Ident}
-use Rattle.tok_types.specs.declared.punctuation.Punctuation.{Punctuation}
 use Rattle.syn_parse.specs.Nested.{Descends, lightens_nested, nested_again, take_nested}
 use Rattle.syn_parse.specs.Takes.{Taking, ◌>>=◌, gives, where_ahead}
 use Rattle.syn_parse.specs.Takings.{Lightens, Takings, lighter, taken_as, told}
-use Rattle.syn_parse.specs.TokenNames.{sees_comma, sees_lt, take_comma, take_gt, take_lt}
+use Rattle.syn_parse.specs.TokenNames.{Comma, Gt, Lt, Token, sees, take}
 use Rattle.syn_parse.specs.Tokens.{take_ident}
 use Rattle.syn_parse.specs.TreesAhead.{Ahead}
 use Rattle.syn_punctuated.specs.Lists.{values_of, separators_of}
@@ -16,23 +15,11 @@ use Rattle.example_grammar.specs.declared.named_type.NamedType.{NamedType}
 use Rattle.example_grammar.specs.declared.named_type.NamedType.TheFolds.{fold-NamedType}
 use Rattle.example_grammar.specs.declared.named_type.NamedType.TheOpen.{NamedType-F}
 
--- the tokens `<`, `,` and `>`, by their numbers in the table of punctuations
-abbrev pub Lt : Type 0
-Lt = Punctuation 20 1
-
--- the type of `,`
-abbrev pub Comma : Type 0
-Comma = Punctuation 7 1
-
--- the type of `>`
-abbrev pub Gt : Type 0
-Gt = Punctuation 17 1
-
 mutual
   -- a type, without the storage of its lists
   pub data Form : Type 0 where
     plain : Ident → Form
-    generic : Ident → Lt → Forms → List Comma → Gt → Form
+    generic : Ident → Token Lt → Forms → List (Token Comma) → Token Gt → Form
 
   -- no type, or a first one and the others
   pub data Forms : Type 0 where
@@ -46,10 +33,10 @@ forms (f ∷ fs) = one_more f (forms fs)
 
 -- types and the commas between them
 abbrev pub ListForm : Type 0
-ListForm = List Form × List Comma
+ListForm = List Form × List (Token Comma)
 
 -- a name and these arguments
-abbrev pub with_arguments : Ident → Lt × ListForm × Gt → Form
+abbrev pub with_arguments : Ident → Token Lt × ListForm × Token Gt → Form
 with_arguments name a = generic name a.0 (forms a.1.0) a.1.1 a.2
 
 -- a type, with the forms of its arguments in their place
@@ -63,18 +50,18 @@ abbrev pub type_form : NamedType → Form
 type_form = fold-NamedType Form one_level
 
 -- `<Type, ..>`, by how a type is taken
-unfoldable pub take_arguments : Taking Form → Taking (Lt × ListForm × Gt)
+unfoldable pub take_arguments : Taking Form → Taking (Token Lt × ListForm × Token Gt)
 take_arguments one = do
-  left ← take_lt
-  list ← take_separated sees_comma one take_comma
-  right ← take_gt
+  left ← take Lt
+  list ← take_separated (sees Comma) one (take Comma)
+  right ← take Gt
   gives (left, list, right)
 
 -- `Name` or `Name<Type, ..>`, by how the types within it are taken
 abbrev pub type_step : Taking Form → Taking Form
 type_step one = do
   name ← take_ident
-  where_ahead sees_lt (do
+  where_ahead (sees Lt) (do
     list ← take_arguments one
     gives (with_arguments name list)) (gives (plain name))
 
@@ -100,10 +87,10 @@ abbrev pub types : Takings NamedType
 types = told type_form take_type (lighter lightens_type)
 
 -- types with commas between them
-abbrev pub lists : Takings (Punctuated NamedType Comma)
-lists = taken_as (list_form type_form (λ p. p)) (take_separated sees_comma take_type take_comma)
+abbrev pub lists : Takings (Punctuated NamedType (Token Comma))
+lists = taken_as (list_form type_form (λ p. p)) (take_separated (sees Comma) take_type (take Comma))
 
 -- types with commas between them, between `<` and `>`
-abbrev pub arguments : Takings (Lt × Punctuated NamedType Comma × Gt)
+abbrev pub arguments : Takings (Token Lt × Punctuated NamedType (Token Comma) × Token Gt)
 arguments =
     taken_as (λ a. (a.0, list_form type_form (λ p. p) a.1, a.2)) (take_arguments take_type)

@@ -7,13 +7,12 @@ use Rattle.tok_core.specs.Forest.{Forest, Tree}
 use Rattle.tok_core.specs.Seen.{tree_of}
 use Rattle.tok_buffer.specs.Trees.{erased_tree}
 use Rattle.tok_types.specs.Sees.{group_first}
-use Rattle.tok_types.specs.declared.punctuation.Punctuation.{Punctuation}
 use Rattle.syn_parse.specs.Many.{take_many, take_to_end, vec_form}
 use Rattle.syn_parse.specs.Runs.{take_run}
 use Rattle.syn_parse.specs.Sequences.{lowers_then}
 use Rattle.syn_parse.specs.Takes.{Taking, ◌>>=◌, gives, take_group}
 use Rattle.syn_parse.specs.Takings.{Lowers}
-use Rattle.syn_parse.specs.TokenNames.{sees_star, take_if, take_not, take_star}
+use Rattle.syn_parse.specs.TokenNames.{If, Not, Star, Token, sees, take}
 use Rattle.syn_parse.specs.Tokens.{take_ident}
 use Rattle.syn_parse.specs.TreeTakes.{take_rest, take_tree}
 use Rattle.syn_parse.specs.Weighing.{weighing}
@@ -26,7 +25,7 @@ use Rattle.example_grammar.specs.declared.runs.UntilBraces.{UntilBraces}
 
 -- `**name`, with any number of stars
 abbrev pub PointerForm : Type 0
-PointerForm = List (Punctuation 43 1) × Ident
+PointerForm = List (Token Star) × Ident
 
 -- a pointer as contracts see it
 abbrev pub pointer_form : Pointer → PointerForm
@@ -35,7 +34,7 @@ pointer_form p = (vec_form (λ v. v) p.stars, p.name)
 -- stars and a name
 abbrev pub take_pointer : Taking PointerForm
 take_pointer = do
-  stars ← take_many sees_star take_star
+  stars ← take_many (sees Star) (take Star)
   name ← take_ident
   gives (stars, name)
 
@@ -70,7 +69,7 @@ branch_form b = (erase b.condition, body_form b.body)
 -- `if condition { body }`
 abbrev pub take_branch : Taking (Forest × Forest)
 take_branch = do
-  _ ← take_if
+  _ ← take If
   condition ← take_run until_braces (record {})
   body ← take_group Brace take_body
   gives (condition, body.1)
@@ -83,6 +82,6 @@ macro_form m = (m.name, erased_tree (tree_of m.arguments))
 abbrev pub take_macro : Taking (Ident × Tree)
 take_macro = do
   name ← take_ident
-  _ ← take_not
+  _ ← take Not
   tree ← take_tree
   gives (name, tree)

@@ -7,11 +7,11 @@ use Rattle.tok_leaves.specs.Spans.{whole_span}
 use Rattle.syn_parse.specs.Lighter.{lowering}
 use Rattle.syn_parse.specs.Takes.{Taking, ◌>>=◌, gives, take_group, where_ahead}
 use Rattle.syn_parse.specs.Takings.{Lightens, Lowers, Takings, lighter, lower, taken_filled, told}
-use Rattle.syn_parse.specs.TokenNames.{take_colon, take_comma}
+use Rattle.syn_parse.specs.TokenNames.{Colon, Comma, Token, take}
 use Rattle.syn_parse.specs.Tokens.{sees_group, take_ident}
 use Rattle.syn_punctuated.specs.TakeLists.{list_form, take_terminated}
 use Rattle.syn_punctuated.specs.declared.punctuated.Punctuated.{Punctuated}
-use Rattle.example_grammar.specs.NamedTypes.{Comma, Form, lightens_type, take_type, type_form}
+use Rattle.example_grammar.specs.NamedTypes.{Form, lightens_type, take_type, type_form}
 use Rattle.example_grammar.specs.declared.shape.Field.{Field}
 use Rattle.example_grammar.specs.declared.shape.NamedFields.{NamedFields}
 use Rattle.example_grammar.specs.declared.shape.Shape.{Shape}
@@ -30,7 +30,7 @@ field_form f = (f.name, type_form f.kind)
 abbrev pub take_named : Taking FieldForm
 take_named = do
   name ← take_ident
-  _ ← take_colon
+  _ ← take Colon
   kind ← take_type
   gives (Some name, kind)
 
@@ -58,11 +58,11 @@ unnamed_field = told field_form take_unnamed (lighter lightens_unnamed)
 
 -- fields and the commas between them
 abbrev pub ListForm : Type 0
-ListForm = List FieldForm × List Comma
+ListForm = List FieldForm × List (Token Comma)
 
 -- the parse of a list of such fields, if no invisible group is empty
-abbrev pub fields_of : Taking FieldForm → Takings (Punctuated Field Comma)
-fields_of field = taken_filled (list_form field_form (λ p. p)) (take_terminated field take_comma)
+abbrev pub fields_of : Taking FieldForm → Takings (Punctuated Field (Token Comma))
+fields_of field = taken_filled (list_form field_form (λ p. p)) (take_terminated field (take Comma))
 
 -- the span of the braces, and the fields
 abbrev pub named_form : NamedFields → Span × ListForm
@@ -71,7 +71,7 @@ named_form f = (whole_span f.brace.span, list_form field_form (λ p. p) f.list)
 -- `{ name: type, .. }`
 abbrev pub take_named_fields : Taking (Span × ListForm)
 take_named_fields = do
-  list ← take_group Brace (take_terminated take_named take_comma)
+  list ← take_group Brace (take_terminated take_named (take Comma))
   gives (list.0.join, list.1)
 
 -- the span of the parentheses, and the fields
@@ -81,7 +81,7 @@ unnamed_form f = (whole_span f.paren.span, list_form field_form (λ p. p) f.list
 -- `(type, ..)`
 abbrev pub take_unnamed_fields : Taking (Span × ListForm)
 take_unnamed_fields = do
-  list ← take_group Parenthesis (take_terminated take_unnamed take_comma)
+  list ← take_group Parenthesis (take_terminated take_unnamed (take Comma))
   gives (list.0.join, list.1)
 
 -- fields with names, fields without names, or none

@@ -1,4 +1,5 @@
-//! A choice in the middle of a parser, and a parser of one token with the place of its error.
+//! A parser with a choice in the middle, and a parser of one token whose contract states the
+//! position of the error.
 ghost use Rattle.std.specs.Prelude.{IfErr};
 ghost use Rattle.syn_parse.specs.Faults.{RefusesAt};
 ghost use Rattle.syn_parse.specs.State.{state_span};
@@ -10,14 +11,14 @@ use syn_parse::{ParseStream, Result};
 use tok_core::{Ident, Literal};
 use tok_types::token;
 
-/// A name, and a value after `=` if there is one.
+/// A name, and optionally a value after `=`.
 #[derive(Drop)]
 pub struct Setting {
     pub name: Ident,
     pub value: Option<Literal>,
 }
 
-/// Reads a setting that `;` ends: `name;` or `name = value;`.
+/// Parses a setting with a `;` after it: `name;` or `name = value;`.
 pub fn read_setting(input: ParseStream<'_, '_>) -> Result<Setting>
     ensures { Takes take_setting input.old result input.new }
 {
@@ -35,7 +36,9 @@ pub fn read_setting(input: ParseStream<'_, '_>) -> Result<Setting>
     Ok(Setting { name, value: None })
 }
 
-/// Reads a name. If there is none, the error is at the next token.
+/// Parses a name.
+///
+/// If no name is next, returns an error at the next token.
 #[tactic(auto, unfolding(syn_parse::specs::Reads::Does))]
 pub fn read_name(input: ParseStream<'_, '_>) -> Result<Ident>
     ensures takes { Takes take_ident input.old result input.new }

@@ -1,4 +1,5 @@
-//! Parsers of more grammars, as a user would write them, proved from public contracts alone.
+//! Examples of parsers for more grammars, written as a user would write them. Their proofs use only
+//! public contracts.
 #![tactic(auto)]
 
 pub mod ended;

@@ -1,4 +1,4 @@
-//! A limit `limit "cpu" = 4`, by a word and by literals of one kind.
+//! A parser of limits such as `limit "cpu" = 4`, which uses a word and literals of one kind.
 ghost use Rattle.syn_parse.specs.Takings.{taken};
 ghost use Rattle.example_grammar.specs.Limits.{take_limit};
 
@@ -6,7 +6,7 @@ use syn_literals::{LitInt, LitStr};
 use syn_parse::{Parse, ParseStream, Result};
 use tok_types::token;
 
-/// The most of a thing, named by a string.
+/// A limit on a resource that a string names.
 #[derive(Drop)]
 pub struct Limit {
     pub name: LitStr,

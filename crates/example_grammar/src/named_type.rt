@@ -1,4 +1,5 @@
-//! A type whose arguments are types, between `<` and `>`: recursion outside of groups.
+//! A parser of types whose arguments between `<` and `>` are also types. The parser is recursive,
+//! although `<` and `>` are not the delimiters of a group.
 ghost use Rattle.syn_parse.specs.Takings.{Keeps};
 ghost use Rattle.example_grammar.specs.NamedTypes.{arguments, lists, types};
 
@@ -8,7 +9,7 @@ use syn_punctuated::Punctuated;
 use tok_core::Ident;
 use tok_types::token;
 
-/// A name, with its arguments or without: `Map<Key, List<Item>>`.
+/// A name with or without arguments, such as `Map<Key, List<Item>>`.
 #[derive(Drop)]
 pub enum NamedType {
     Plain(Ident),

@@ -1,4 +1,4 @@
-//! Values in a row, a run of trees, any tree, and all that is left.
+//! Parsers of repeated values, of a run of trees, of any single tree, and of all remaining trees.
 ghost use Rattle.syn_parse.specs.Takings.{lower, taken_as, taken_filled, told};
 ghost use Rattle.example_grammar.specs.Runs.{body_form, branch_form, lowers_pointer, macro_form, pointer_form, pointers_form, take_body, take_branch, take_macro, take_pointer, take_pointers, until_braces};
 
@@ -7,7 +7,7 @@ use tok_buffer::Cursor;
 use tok_core::{Delimiter, Ident, TokenStream, TokenTree};
 use tok_types::token::{self, Token};
 
-/// A name after any number of stars: `**a`.
+/// A name after any number of stars, such as `**a`.
 #[derive(Drop)]
 pub struct Pointer {
     pub stars: Vec<token::Star>,
@@ -24,7 +24,7 @@ impl Parse for Pointer {
     }
 }
 
-/// Pointers up to the end: `a *b **c`.
+/// A list of pointers up to the end of the stream, such as `a *b **c`.
 #[derive(Drop)]
 pub struct Pointers {
     pub list: Vec<Pointer>,
@@ -39,7 +39,7 @@ impl Parse for Pointers {
     }
 }
 
-/// All trees that are left.
+/// All remaining token trees of a stream.
 #[derive(Drop)]
 pub struct Body {
     pub tokens: TokenStream,
@@ -54,7 +54,7 @@ impl Parse for Body {
     }
 }
 
-/// Ends a run before a tree in braces.
+/// A run of trees that ends before a group in braces.
 #[derive(Clone, Copy)]
 pub struct UntilBraces;
 
@@ -70,7 +70,8 @@ impl Run for UntilBraces {
     }
 }
 
-/// A branch `if condition { body }`, whose condition is any trees but one in braces.
+/// A branch of the form `if condition { body }`. The condition may contain any trees except groups
+/// in braces.
 #[derive(Drop)]
 pub struct Branch {
     pub condition: TokenStream,
@@ -88,7 +89,7 @@ impl Parse for Branch {
     }
 }
 
-/// A call `name! tree` of a macro, with any one tree.
+/// A macro call of the form `name! tree`, with any single token tree after the `!`.
 #[derive(Drop)]
 pub struct MacroCall {
     pub name: Ident,

@@ -1,4 +1,4 @@
-//! The fields of a struct, with names or without, read by functions.
+//! The named or unnamed fields of a struct, and functions that parse them.
 ghost use Rattle.syn_parse.specs.Takings.{Keeps, taken_filled};
 ghost use Rattle.example_grammar.specs.Shapes.{fields_of, named_field, named_form, shape_form, take_named, take_named_fields, take_shape, take_unnamed, take_unnamed_fields, unnamed_field, unnamed_form};
 
@@ -9,7 +9,7 @@ use syn_punctuated::Punctuated;
 use tok_core::Ident;
 use tok_types::token;
 
-/// A field: `name: type`, or a type alone.
+/// A field, which has the form `name: type` or consists of a type alone.
 #[derive(Drop)]
 pub struct Field {
     pub name: Option<Ident>,
@@ -17,7 +17,7 @@ pub struct Field {
 }
 
 impl Field {
-    /// Parses `name: type`.
+    /// Parses a field of the form `name: type`.
     pub fn parse_named(input: ParseStream<'_, '_>) -> Result<Self>
         ensures { Keeps named_field input.old result input.new }
     {
@@ -30,7 +30,7 @@ impl Field {
         })
     }
 
-    /// Parses a type.
+    /// Parses a field that is a type alone.
     pub fn parse_unnamed(input: ParseStream<'_, '_>) -> Result<Self>
         ensures { Keeps unnamed_field input.old result input.new }
     {
@@ -39,7 +39,7 @@ impl Field {
     }
 }
 
-/// Fields with names, in braces: `{ name: type, .. }`.
+/// Named fields in braces: `{ name: type, .. }`.
 #[derive(Drop)]
 pub struct NamedFields {
     pub brace: token::Brace,
@@ -61,7 +61,7 @@ impl Parse for NamedFields {
     }
 }
 
-/// Fields without names, in parentheses: `(type, ..)`.
+/// Unnamed fields in parentheses: `(type, ..)`.
 #[derive(Drop)]
 pub struct UnnamedFields {
     pub paren: token::Paren,
@@ -99,7 +99,7 @@ fn read_unnamed(input: ParseStream<'_, '_>) -> Result<Punctuated<Field, token::C
     Punctuated::parse_terminated_with(input, Field::parse_unnamed)
 }
 
-/// What follows the name of a struct: fields in braces, fields in parentheses, or neither.
+/// The part of a struct after the name: fields in braces, fields in parentheses, or nothing.
 #[derive(Drop)]
 pub enum Shape {
     Named(NamedFields),

@@ -1,7 +1,8 @@
-//! Pairs `name => "text"` with commas between them: a parser of one's own, for a macro crate.
+//! A parser for a macro crate, which parses pairs such as `name => "text"` with commas between
+//! them.
 //!
-//! `tools/macro` copies this crate under another name. What a language of one's own changes is above
-//! the export.
+//! `tools/macro` copies this crate under another name. To parse your own language, change the code
+//! above the export.
 #![tactic(auto)]
 
 ghost use Rattle.entry_outcomes.specs.Answers.{IsWritten};
@@ -17,14 +18,14 @@ use tok_core::{Ident, Literal};
 use tok_entries::Entry;
 use tok_types::token;
 
-/// A pair `name => literal`.
+/// A pair of the form `name => literal`.
 #[derive(Drop)]
 pub struct Pair {
     pub name: Ident,
     pub value: Literal,
 }
 
-/// Pairs with commas between them. There may be one after the last.
+/// A list of pairs with commas between them, and an optional comma after the last pair.
 pub type Pairs = Punctuated<Pair, token::Comma>;
 
 impl Parse for Pair {
@@ -49,7 +50,9 @@ fn read_pairs(input: ParseStream<'_, '_>) -> Result<Pairs>
     Punctuated::parse_terminated(input)
 }
 
-/// A pair, as a macro in Rust sees it: the numbers of its two tokens.
+/// A pair as a plain struct, which a macro in Rust receives.
+///
+/// The fields contain the numbers of the pair's two tokens.
 #[repr(C)]
 #[derive(Clone, Copy)]
 pub struct FlatPair {
@@ -69,9 +72,13 @@ fn flatten(alloc: Global, pairs: &Pairs) -> std::result::Result<Answer<FlatPair>
     Ok(answer)
 }
 
-/// Parses entries as pairs, and writes them over the front of `values`; or all messages of an error
-/// over the front of `messages`, and their texts over that of `bytes`. If there is not enough room,
-/// nothing is written: `outcome` then says how much it takes, and the call can be made again.
+/// Parses `entries` as pairs, and writes the pairs to the start of `values`.
+///
+/// If the tokens are rejected, the call writes all messages of the error to the start of
+/// `messages`, and their texts to the start of `bytes`.
+///
+/// If one of these slices is too short, the call writes to none of them. `outcome` then contains
+/// the required lengths, and the caller can repeat the call with longer slices.
 #[unsafe(no_mangle)]
 pub extern "C" fn example_pairs_parse(
     alloc: Global,
