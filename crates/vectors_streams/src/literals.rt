@@ -1,9 +1,11 @@
 //! Literals of one kind in sources, with their values.
 use crate::visible::marked;
 use std::alloc::Global;
-use syn_literals::{LitBool, LitFloat, LitInt, LitStr};
+use syn_literals::{
+    LitBool, LitFloat, LitInt, LitStr, SignedFloat, SignedInt, signed_float_value, signed_int_value,
+};
 use syn_parse::{Fault, ParseStream, Parser, Result};
-use tok_core::Edition;
+use tok_core::{Edition, Literal};
 use tok_types::token::Token;
 
 /// Parses a text by the parser of this name, if there is one here.
@@ -14,6 +16,9 @@ pub fn parsed(alloc: Global, parser: &str, text: &str) -> Option<Result<String>>
         "LitInt" => integer.parse_source(alloc, edition, text),
         "LitFloat" => float.parse_source(alloc, edition, text),
         "LitBool" => boolean.parse_source(alloc, edition, text),
+        "SignedInt" => signed_integer.parse_source(alloc, edition, text),
+        "SignedFloat" => signed_float.parse_source(alloc, edition, text),
+        "LitFrom" => taken.parse_source(alloc, edition, text),
         "LitKind" => kind.parse_source(alloc, edition, text),
         "LitLookahead" => looked.parse_source(alloc, edition, text),
         "MarkedStr" => string.parse2(alloc, marked(alloc, text)?),
@@ -54,6 +59,36 @@ fn float(input: ParseStream<'_, '_>) -> Result<String> {
         Some(value) => format!(in alloc; "{literal} is {value}")?,
         None => format!(in alloc; "{literal} has no value")?,
     })
+}
+
+// The value with its sign.
+fn signed_integer(input: ParseStream<'_, '_>) -> Result<String> {
+    let alloc = input.allocator();
+    let number = input.parse::<SignedInt>()?;
+    match signed_int_value(&number) {
+        Ok(value) => Ok(format!(in alloc; "{value}")?),
+        Err(fault) => Err(Fault::at(alloc, number.1.span(), fault)),
+    }
+}
+
+// The value with its sign.
+fn signed_float(input: ParseStream<'_, '_>) -> Result<String> {
+    let alloc = input.allocator();
+    let number = input.parse::<SignedFloat>()?;
+    Ok(match signed_float_value(alloc, &number)? {
+        Some(value) => format!(in alloc; "{value}")?,
+        None => format!(in alloc; "no value")?,
+    })
+}
+
+// Whether the literal is a string, an integer, and a float.
+fn taken(input: ParseStream<'_, '_>) -> Result<String> {
+    let alloc = input.allocator();
+    let literal: Literal = input.parse()?;
+    let string = LitStr::from_literal(literal.clone()?).is_some();
+    let integer = LitInt::from_literal(literal.clone()?).is_some();
+    let float = LitFloat::from_literal(literal).is_some();
+    Ok(format!(in alloc; "{string} {integer} {float}")?)
 }
 
 fn boolean(input: ParseStream<'_, '_>) -> Result<String> {
