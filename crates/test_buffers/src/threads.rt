@@ -1,12 +1,19 @@
-//! Texts, leaves, streams, buffers and errors may be sent to other threads, and shared with them.
+//! Texts, leaves, spans, streams, buffers and errors may be sent to other threads, and shared with
+//! them.
 use tok_buffer::{Cursor, Error, Lifetime, TokenBuffer};
-use tok_core::{Group, Ident, Literal, Punct, Text, TokenStream, TokenTree};
+use tok_carets::LineColumn;
+use tok_core::{
+    Delimiter, Group, Ident, LexError, Literal, Punct, Spacing, Span, Text, TokenStream, TokenTree,
+};
 
 // Compiles only if values of the type may be sent to another thread, and shared with it.
 fn crosses<T: Send + Sync>() {}
 
 #[test]
 fn cross_threads(_rt: HostRuntime) {
+    crosses::<Span>();
+    crosses::<Spacing>();
+    crosses::<Delimiter>();
     crosses::<Text>();
     crosses::<Ident>();
     crosses::<Literal>();
@@ -18,4 +25,6 @@ fn cross_threads(_rt: HostRuntime) {
     crosses::<TokenBuffer>();
     crosses::<Cursor<'static>>();
     crosses::<Error>();
+    crosses::<LexError>();
+    crosses::<LineColumn>();
 }

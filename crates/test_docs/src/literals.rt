@@ -1,5 +1,5 @@
 //! Examples of `syn_literals`.
-use syn_literals::{LitBool, LitInt, LitStr};
+use syn_literals::{LitBool, LitInt, LitStr, SignedInt, signed_int_value};
 use syn_parse::{Fault, ParseStream, Parser, Result};
 
 fn path(input: ParseStream<'_, '_>) -> Result<bool> {
@@ -16,6 +16,15 @@ fn size(input: ParseStream<'_, '_>) -> Result<u64> {
     }
 }
 
+fn offset(input: ParseStream<'_, '_>) -> Result<i128> {
+    let alloc = input.allocator();
+    let number = input.parse::<SignedInt>()?;
+    match signed_int_value(&number) {
+        Ok(value) => Ok(value),
+        Err(fault) => Err(Fault::at(alloc, number.1.span(), fault)),
+    }
+}
+
 fn visibility(input: ParseStream<'_, '_>) -> Result<bool> {
     let is_public = input.parse::<LitBool>()?.value;
     Ok(is_public)
@@ -26,5 +35,6 @@ fn literals(rt: HostRuntime) {
     let alloc = rt.alloc();
     assert_eq!(rt; path.parse_str(alloc, "\"a/b\"").ok(), Some(true));
     assert_eq!(rt; size.parse_str(alloc, "8_080").ok(), Some(8080));
+    assert_eq!(rt; offset.parse_str(alloc, "-5i32").ok(), Some(-5));
     assert_eq!(rt; visibility.parse_str(alloc, "true").ok(), Some(true));
 }

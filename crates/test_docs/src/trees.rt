@@ -2,10 +2,11 @@
 use std::alloc::{AllocError, AllocGlobal, Global};
 use std::process::Abort;
 use tok_core::{
-    Edition, Ident, IdentFault, LexFault, Lifetime, LifetimeFault, Literal, LiteralFault,
-    MakeFault, Span, ToTokens, TokenStream, TokenTree, is_filled, lex, lex_marked, lex_source,
-    same_visible,
+    Edition, Ident, IdentFault, IntegerType, LexFault, Lifetime, LifetimeFault, Literal,
+    LiteralFault, MakeFault, Span, ToTokens, TokenStream, TokenTree, is_filled, lex, lex_marked,
+    lex_source, same_visible,
 };
+use tok_lexical::{QuotedFault, quoted_fault};
 
 #[test]
 fn spans(rt: HostRuntime) {
@@ -55,11 +56,18 @@ fn number(rt: &(impl Abort + AllocGlobal), alloc: Global) -> Result<(), LiteralF
     Ok(())
 }
 
+fn integer(rt: &(impl Abort + AllocGlobal), alloc: Global) -> Result<(), AllocError> {
+    let five = Literal::integer_suffixed(alloc, 5, IntegerType::I32)?;
+    assert_eq!(rt; five.as_ref().map(Literal::as_str), Some("5i32"));
+    Ok(())
+}
+
 #[test]
 fn leaves(rt: HostRuntime) {
     assert!(rt; ident(&rt, rt.alloc()).is_ok());
     faults(&rt);
     assert!(rt; number(&rt, rt.alloc()).is_ok());
+    assert!(rt; integer(&rt, rt.alloc()).is_ok());
     assert!(rt; lifetime(&rt, rt.alloc()).is_ok());
     assert!(rt; literal(&rt, rt.alloc()).is_ok());
 }
@@ -122,10 +130,26 @@ fn rejected(rt: &(impl Abort + AllocGlobal), alloc: Global) {
     }
 }
 
+fn explained(rt: &(impl Abort + AllocGlobal), alloc: Global) {
+    let text = "name: \"a\\q\"";
+    if let Err(LexFault::Refused(error)) = lex(alloc, 0, text) {
+        let (span, words) = error.explain(text);
+        assert!(rt; span == Span::source(0, 8, 8));
+        assert_eq!(rt; words, "unknown escape");
+    }
+}
+
+fn faulty(rt: &impl Abort) {
+    let fault = quoted_fault("\"a\\q\"");
+    assert_eq!(rt; fault, Some((QuotedFault::UnknownEscape, 2)));
+}
+
 #[test]
 fn texts(rt: HostRuntime) {
     assert!(rt; plain(&rt, rt.alloc()).is_ok());
     assert!(rt; marked(&rt, rt.alloc()).is_ok());
     assert!(rt; source(&rt, rt.alloc()).is_ok());
     rejected(&rt, rt.alloc());
+    explained(&rt, rt.alloc());
+    faulty(&rt);
 }

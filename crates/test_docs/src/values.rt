@@ -2,9 +2,9 @@
 use std::alloc::{AllocError, AllocGlobal, Global};
 use std::process::Abort;
 use tok_buffer::Error;
-use tok_carets::{LineColumn, LineIndex, Source, line_column};
+use tok_carets::{IndexedSource, LineColumn, LineIndex, Source, line_column};
 use tok_core::{LexFault, Literal, LiteralFault, Span, TokenTree, lex};
-use tok_values::{IntegerFault, LiteralExt};
+use tok_values::{IntegerFault, LiteralExt, NumberFault};
 
 fn port_of(literal: &Literal) -> Result<u64, IntegerFault> {
     let port = literal.integer_value()?.value;
@@ -28,9 +28,25 @@ fn suffix(rt: &(impl Abort + AllocGlobal), alloc: Global) -> Result<(), LiteralF
     Ok(())
 }
 
+fn raw(rt: &(impl Abort + AllocGlobal), alloc: Global) -> Result<(), LiteralFault> {
+    let name = Literal::new(alloc, "r#\"a\"#s", Span::call_site())?;
+    assert_eq!(rt; name.str_value(alloc)?.as_deref(), Some("a"));
+    Ok(())
+}
+
+fn number(rt: &(impl Abort + AllocGlobal), alloc: Global) -> Result<(), NumberFault> {
+    let half = Literal::number(alloc, "0.5f32", Span::call_site())?;
+    assert_eq!(rt; half.suffix(), "f32");
+    let fault = Literal::number(alloc, "0.5f33", Span::call_site()).err();
+    assert_eq!(rt; fault, Some(NumberFault::Suffix));
+    Ok(())
+}
+
 #[test]
 fn values(rt: HostRuntime) {
+    assert!(rt; number(&rt, rt.alloc()).is_ok());
     assert!(rt; suffix(&rt, rt.alloc()).is_ok());
+    assert!(rt; raw(&rt, rt.alloc()).is_ok());
     assert_eq!(rt; port(rt.alloc()).ok(), Some(8080));
 }
 
@@ -45,7 +61,21 @@ fn carets(rt: &(impl Abort + AllocGlobal), alloc: Global) -> Result<(), AllocErr
         shown.as_str(),
         "error: expected `,`\n --> config:1:3\n  |\n1 | a b\n  |   ^\n"
     );
+    same_again(rt, alloc, source)?;
     notes(rt, alloc, source)
+}
+
+fn same_again(
+    rt: &(impl Abort + AllocGlobal),
+    alloc: Global,
+    source: Source<'_>,
+) -> Result<(), AllocError> {
+    let indexed = IndexedSource::new(alloc, source)?;
+    let span = Span::source(0, 2, 3);
+    let shown = indexed.show(alloc, span, "expected `,`")?;
+    let alone = source.show(alloc, span, "expected `,`")?;
+    assert_eq!(rt; shown.as_str(), alone.as_str());
+    Ok(())
 }
 
 fn notes(

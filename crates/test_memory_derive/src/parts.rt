@@ -1,14 +1,14 @@
 //! What a derive is given and its parts, parsed, and written if they can be.
 use std::alloc::Global;
 use syn_derive::{
-    Attribute, DeriveInput, Expr, Field, Fields, Generics, Meta, Path, PathSegment, Type, Variant,
-    Visibility, WhereClause,
+    Attribute, DeriveInput, Expr, Field, Fields, Generics, Meta, MetaList, MetaNameValue,
+    NestedMeta, Path, PathSegment, Type, Variant, Visibility, WhereClause,
 };
 use syn_parse::{Parse, ParseStream, Result, tokens_to_parse_buffer};
 use syn_punctuated::Punctuated;
 use test_outcomes::memory::{Outcome, Stop, ended, made, rejected, told, worst};
 use tok_buffer::TokenBuffer;
-use tok_core::{Ident, Span, ToTokens};
+use tok_core::{Ident, Span, ToTokens, lex};
 use tok_types::token;
 
 /// Makes each call.
@@ -22,8 +22,18 @@ pub fn calls(alloc: Global) -> Outcome {
         copied::<Meta>(alloc, "a[b]"),
         copied::<Meta>(alloc, "a{b}"),
         copied::<Meta>(alloc, "unsafe(b)"),
+        copied::<MetaList>(alloc, "abcdefghijklmnop(b)"),
+        copied::<MetaList>(alloc, "a[b]"),
+        copied::<MetaList>(alloc, "unsafe{b}"),
+        rejects::<MetaList>(alloc, "a = 1", "MetaList::parse"),
+        copied::<MetaNameValue>(alloc, "abcdefghijklmnop = 1"),
+        rejects::<MetaNameValue>(alloc, "a(b)", "MetaNameValue::parse"),
         takes::<Nested>(alloc, "::type::abcdefghijklmnop = 1"),
         rejects::<Nested>(alloc, ",", "Meta::parse_nested"),
+        copied::<NestedMeta>(alloc, "type(abcdefghijklmnop)"),
+        copied::<NestedMeta>(alloc, "\"abcdefghijklmnop\""),
+        rejects::<NestedMeta>(alloc, "+", "NestedMeta::parse"),
+        of_macro(alloc),
         copied::<Attribute>(alloc, "#[a]"),
         copied::<Visibility>(alloc, "pub"),
         copied::<Visibility>(alloc, "pub(in abcdefghijklmnop)"),
@@ -139,6 +149,7 @@ fn arguments(alloc: Global) -> Outcome {
         ended(attribute.parse_args::<Ident>(alloc)),
         ended(attribute.parse_args_with(alloc, names)),
         ended(attribute.parse_nested_meta(alloc)),
+        ended(attribute.nested(alloc)),
         of_list(alloc, &attribute.meta),
     ])
 }
@@ -149,9 +160,16 @@ fn of_list(alloc: Global, meta: &Meta) -> Outcome {
             ended(list.parse_args::<Ident>(alloc)),
             ended(list.parse_args_with(alloc, names)),
             ended(list.parse_nested_meta(alloc)),
+            ended(list.nested(alloc)),
         ]),
         _ => Err(Stop::Wrong("Attribute::parse")),
     }
+}
+
+// Parses the arguments of an attribute macro.
+fn of_macro(alloc: Global) -> Outcome {
+    let tokens = made(lex(alloc, 0, "abcdefghijklmnop, 1"))?;
+    ended(NestedMeta::parse_meta_list(alloc, tokens))
 }
 
 // Parses the arguments of an attribute that has none.
@@ -171,6 +189,7 @@ fn without_arguments(alloc: Global, text: &str) -> Outcome {
             attribute.parse_nested_meta(alloc),
             "Attribute::parse_nested_meta",
         ),
+        rejected(attribute.nested(alloc), "Attribute::nested"),
     ])
 }
 

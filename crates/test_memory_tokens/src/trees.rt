@@ -3,8 +3,8 @@ use std::alloc::{AllocError, Global};
 use std::ffi::CStr;
 use test_outcomes::memory::{Outcome, Stop, ended, made, worst};
 use tok_core::{
-    Edition, Group, Ident, Literal, Punct, Spacing, Span, Text, ToTokens, TokenStream, TokenTree,
-    lex, lex_marked, lex_source, same_visible,
+    Edition, Group, Ident, IntegerType, Literal, Punct, Spacing, Span, Text, ToTokens, TokenStream,
+    TokenTree, lex, lex_marked, lex_source, same_visible,
 };
 
 /// Makes each call.
@@ -60,6 +60,8 @@ fn literals(alloc: Global) -> Outcome {
         ended(Literal::character(alloc, 'é')),
         ended(Literal::byte_character(alloc, 0xFF)),
         ended(Literal::byte_string(alloc, b"abcdefghijklm\n")),
+        ended(Literal::integer_unsuffixed(alloc, u128::MAX)),
+        ended(Literal::integer_suffixed(alloc, u128::MAX, IntegerType::U128)),
     ])
 }
 

@@ -59,20 +59,20 @@ fn report(alloc: Global) -> Option<Report> {
 
 // Each kind of line, in the pieces in which a report is printed.
 const PIECES: &str = "\
-entered |1| |(| |0|..|3| |@|3|\n|\
-read| |a| |1|..|2| |@|2|\n|\
-true| |@|2|\n|\
-done| |@|2|\n|\
-forked |2| |@|3|\n|\
-done| |@|3|\n|\
-refused |4|..|5| |expected literal| |@|3|\n|\
-found |0| |@|3|\n|\
-read| |'| |4|..|5| |b| |5|..|6| |@|5|\n|\
-none| |@|5|\n|\
-span |7|..|8| |@|5|\n|\
-read| |1| |7|..|8| |@|6|\n|\
-list| [|c| |9|..|10|]| [|,| |10|..|11|]| [|d| |11|..|12|]| |@|9|\n|\
-trees| |{|e|}| |@|12|\n|\
+entered |1| |(| |0|..|3| @3\n|\
+read |a| 1..2 @2\n|\
+true| @2\n|\
+done| @2\n|\
+forked |2| @3\n|\
+done| @3\n|\
+refused |4|..|5| |expected literal| @3\n|\
+found |0| @3\n|\
+read| |'| |4|..|5| |b| |5|..|6| @5\n|\
+none| @5\n|\
+span |7|..|8| @5\n|\
+read |1| 7..8 @6\n|\
+list| [|c| |9|..|10|]| [|,| |10|..|11|]| [|d| |11|..|12|]| @9\n|\
+trees| |{|e|}| @12\n|\
 trees| |f| |@empty|\n|\
 list| |@empty|\n|\
 true| |@empty|\n|\
@@ -124,5 +124,5 @@ fn all_taken(rt: &(impl Abort + AllocGlobal), counts: Range<usize>) {
 
 #[test]
 fn fails_between_pieces(rt: HostRuntime) {
-    all_taken(&rt, 0..166);
+    all_taken(&rt, 0..114);
 }

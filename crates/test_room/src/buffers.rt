@@ -47,6 +47,23 @@ pub fn flat(alloc: Global, count: usize) -> Outcome {
     mark(alloc)
 }
 
+/// Copies the first `count` names of twice as many out of a buffer.
+pub fn up_to(alloc: Global, count: usize) -> Outcome {
+    let text = times(alloc, "a a ", count)?;
+    let buffer = made(TokenBuffer::from_text(alloc, 0, 0, text.as_str()))?;
+    let start = buffer.begin();
+    let mut end = start;
+    for _ in 0..count {
+        let Some(after) = end.skip_tree() else {
+            return Err(Stop::Wrong("Cursor::skip_tree"));
+        };
+        end = after;
+    }
+    mark(alloc)?;
+    let _stream = made(start.tokens_up_to(alloc, end))?;
+    mark(alloc)
+}
+
 // Returns this text inside `count` groups.
 fn inside(
     alloc: Global,

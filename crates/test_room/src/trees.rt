@@ -2,7 +2,7 @@
 use crate::{mark, push_times};
 use std::alloc::Global;
 use test_outcomes::memory::{Outcome, Stop, made};
-use tok_core::lex;
+use tok_core::{Punct, Spacing, TokenStream, lex};
 
 /// Returns a text of so many bytes: this opening, `count` names, blanks, and this closing.
 pub fn names(
@@ -33,5 +33,18 @@ pub fn in_group(alloc: Global, count: usize, bytes: usize) -> Outcome {
     let text = names(alloc, "(", ")", count, bytes)?;
     mark(alloc)?;
     let _stream = made(lex(alloc, 0, text.as_str()))?;
+    mark(alloc)
+}
+
+/// Appends `count` puncts to a stream with room for as many.
+pub fn appended(alloc: Global, count: usize) -> Outcome {
+    let Some(plus) = Punct::new('+', Spacing::Alone) else {
+        return Err(Stop::Wrong("Punct::new"));
+    };
+    mark(alloc)?;
+    let mut stream = made(TokenStream::with_capacity(alloc, count))?;
+    for _ in 0..count {
+        made(stream.append(plus.into()))?;
+    }
     mark(alloc)
 }

@@ -3,8 +3,8 @@ use std::alloc::{AllocGlobal, Global};
 use std::ffi::CStr;
 use std::process::Abort;
 use tok_core::{
-    Edition, Ident, IdentFault, Literal, LiteralFault, MakeFault, Punct, Spacing, Span, TokenTree,
-    lex_source,
+    Edition, Ident, IdentFault, IntegerType, Literal, LiteralFault, MakeFault, Punct, Spacing,
+    Span, TokenTree, lex_source,
 };
 
 // Returns `true` if `Ident::new` makes the wanted identifier of a text, or rejects the text if none
@@ -44,11 +44,16 @@ fn makes_idents(rt: HostRuntime) {
         &[
             ("_", Some("_")),
             ("fn", Some("fn")),
+            ("String", Some("String")),
+            ("abstract", Some("abstract")),
             ("é1", Some("é1")),
             ("", None),
             ("1a", None),
+            ("255", None),
             ("r#a", None),
             ("a b", None),
+            ("a#", None),
+            ("'static", None),
         ],
     );
 }
@@ -59,6 +64,8 @@ fn makes_raw_idents(rt: HostRuntime) {
         &rt,
         &[
             ("a", Some("r#a")),
+            ("fn", Some("r#fn")),
+            ("String", Some("r#String")),
             ("selfish", Some("r#selfish")),
             ("_", None),
             ("self", None),
@@ -99,8 +106,11 @@ fn tells_why_no_identifier(rt: HostRuntime) {
             ("", empty, empty),
             ("1a", number, number),
             ("0", number, number),
+            ("255", number, number),
             ("r#a", raw, raw),
             ("r#", raw, raw),
+            ("r#255", raw, raw),
+            ("r#a#", raw, raw),
             ("_", None, Some(IdentFault::NoRaw)),
             ("self", None, Some(IdentFault::NoRaw)),
             ("Self", None, Some(IdentFault::NoRaw)),
@@ -110,7 +120,10 @@ fn tells_why_no_identifier(rt: HostRuntime) {
             ("é ", other(2, ' '), other(2, ' ')),
             ("éé\u{20ac}", other(4, '\u{20ac}'), other(4, '\u{20ac}')),
             ("-a", other(0, '-'), other(0, '-')),
-            ("'a", other(0, '\''), other(0, '\'')),
+            ("a#", other(1, '#'), other(1, '#')),
+            ("'", other(0, '\''), other(0, '\'')),
+            ("'255", other(0, '\''), other(0, '\'')),
+            ("'a#", other(0, '\''), other(0, '\'')),
             ("\u{301}a", other(0, '\u{301}'), other(0, '\u{301}')),
             ("\u{661}", other(0, '\u{661}'), other(0, '\u{661}')),
         ],
@@ -163,6 +176,7 @@ fn makes_literals_of_texts(rt: HostRuntime) {
         &rt,
         &[
             ("0", Ok(true)),
+            ("1.0", Ok(true)),
             ("5i32", Ok(true)),
             ("0x_fFu8", Ok(true)),
             ("1.", Ok(true)),
@@ -178,17 +192,23 @@ fn makes_literals_of_texts(rt: HostRuntime) {
             ("cr#\"a\"#", Ok(true)),
             ("'\\''", Ok(true)),
             ("'é'", Ok(true)),
+            ("\"\n\"", Ok(true)),
             (" 0", no),
             ("0 ", no),
             ("/* comment */0", no),
             ("0/* comment */", no),
-            ("0 // comment", no),
+            ("0// comment", no),
             ("1 2", no),
             ("1.a", no),
             ("1..", no),
             ("-1", sign),
+            ("-1u12", sign),
+            ("-1.0", sign),
+            ("-1.0f12", sign),
             ("+1", sign),
             ("- 1", sign),
+            ("- 1.0", sign),
+            ("-\"\"", sign),
             ("", no),
             ("a", no),
             ("true", no),
@@ -246,6 +266,8 @@ enum Made<'a> {
     ByteString(&'a [u8]),
     // A text that a zero ends.
     CString(&'a [u8]),
+    Integer(u128),
+    IntegerOf(u128, IntegerType),
 }
 
 fn literal(alloc: Global, made: &Made<'_>) -> Option<Literal> {
@@ -257,6 +279,10 @@ fn literal(alloc: Global, made: &Made<'_>) -> Option<Literal> {
         Made::ByteString(bytes) => Literal::byte_string(alloc, bytes).ok(),
         Made::CString(bytes) => {
             Literal::c_string(alloc, CStr::from_bytes_with_nul(bytes).ok()?).ok()
+        }
+        Made::Integer(number) => Literal::integer_unsuffixed(alloc, *number).ok(),
+        Made::IntegerOf(number, suffix) => {
+            Literal::integer_suffixed(alloc, *number, *suffix).ok()?
         }
     }
 }
@@ -288,10 +314,106 @@ fn all_made(rt: &(impl Abort + AllocGlobal), rows: &[(Made<'_>, &str)]) {
 }
 
 #[test]
+fn makes_integers(rt: HostRuntime) {
+    all_made(
+        &rt,
+        &[
+            (Made::Integer(0), "0"),
+            (Made::Integer(10), "10"),
+            (
+                Made::Integer(u128::MAX),
+                "340282366920938463463374607431768211455",
+            ),
+            (Made::IntegerOf(127, IntegerType::I8), "127i8"),
+            (Made::IntegerOf(32_767, IntegerType::I16), "32767i16"),
+            (
+                Made::IntegerOf(2_147_483_647, IntegerType::I32),
+                "2147483647i32",
+            ),
+            (
+                Made::IntegerOf(9_223_372_036_854_775_807, IntegerType::I64),
+                "9223372036854775807i64",
+            ),
+            (
+                Made::IntegerOf(
+                    170_141_183_460_469_231_731_687_303_715_884_105_727,
+                    IntegerType::I128,
+                ),
+                "170141183460469231731687303715884105727i128",
+            ),
+            (Made::IntegerOf(0, IntegerType::Isize), "0isize"),
+            (Made::IntegerOf(255, IntegerType::U8), "255u8"),
+            (Made::IntegerOf(65_535, IntegerType::U16), "65535u16"),
+            (
+                Made::IntegerOf(4_294_967_295, IntegerType::U32),
+                "4294967295u32",
+            ),
+            (
+                Made::IntegerOf(18_446_744_073_709_551_615, IntegerType::U64),
+                "18446744073709551615u64",
+            ),
+            (
+                Made::IntegerOf(u128::MAX, IntegerType::U128),
+                "340282366920938463463374607431768211455u128",
+            ),
+            (
+                Made::IntegerOf(18_446_744_073_709_551_615, IntegerType::Usize),
+                "18446744073709551615usize",
+            ),
+        ],
+    );
+}
+
+// Returns `true` if the type has this number, and not the next one, and is found by its name.
+fn is_largest(alloc: Global, number: u128, suffix: IntegerType) -> Option<bool> {
+    let largest = Literal::integer_suffixed(alloc, number, suffix).ok()?;
+    let after = number.checked_add(1)?;
+    let next = Literal::integer_suffixed(alloc, after, suffix).ok()?;
+    let is_found = IntegerType::of(suffix.name()) == Some(suffix);
+    Some(largest.is_some() && next.is_none() && is_found)
+}
+
+fn all_largest(rt: &(impl Abort + AllocGlobal), rows: &[(u128, IntegerType)]) {
+    for (number, suffix) in rows {
+        assert_eq!(rt;
+            is_largest(rt.alloc(), *number, *suffix),
+            Some(true),
+            "at {number}"
+        );
+    }
+}
+
+#[test]
+fn types_have_largest_integers(rt: HostRuntime) {
+    all_largest(
+        &rt,
+        &[
+            (127, IntegerType::I8),
+            (32_767, IntegerType::I16),
+            (2_147_483_647, IntegerType::I32),
+            (9_223_372_036_854_775_807, IntegerType::I64),
+            (
+                170_141_183_460_469_231_731_687_303_715_884_105_727,
+                IntegerType::I128,
+            ),
+            (9_223_372_036_854_775_807, IntegerType::Isize),
+            (255, IntegerType::U8),
+            (65_535, IntegerType::U16),
+            (4_294_967_295, IntegerType::U32),
+            (18_446_744_073_709_551_615, IntegerType::U64),
+            (18_446_744_073_709_551_615, IntegerType::Usize),
+        ],
+    );
+}
+
+#[test]
 fn makes_literals(rt: HostRuntime) {
     all_made(
         &rt,
         &[
+            (Made::String("foo"), "\"foo\""),
+            (Made::String("\""), "\"\\\"\""),
+            (Made::String("didn't"), "\"didn't\""),
             (Made::String("a\"b"), "\"a\\\"b\""),
             (Made::String("\\\n\r\t\0'é"), "\"\\\\\\n\\r\\t\\0'é\""),
             (Made::DocComment(" it's \"é\"\\"), "\" it's \\\"é\\\"\\\\\""),
@@ -324,7 +446,7 @@ fn makes_literals(rt: HostRuntime) {
                 Made::DocComment(" ~¡¬®ʯͰ\u{1E00}‐‑‧‰⁞⁰₠℀、〈豈︐︰︱\u{FF01}\u{FFFC}\u{FFFD}𐀀\u{2FA1D}"),
                 "\" ~¡¬®ʯͰ\u{1E00}‐‑‧‰⁞⁰₠℀、〈豈︐︰︱\u{FF01}\u{FFFC}\u{FFFD}𐀀\u{2FA1D}\"",
             ),
-            (Made::Character('a'), "'a'"),
+            (Made::Character('x'), "'x'"),
             (Made::Character('é'), "'é'"),
             (Made::Character('"'), "'\"'"),
             (Made::Character('\''), "'\\''"),
@@ -340,6 +462,10 @@ fn makes_literals(rt: HostRuntime) {
             (Made::ByteCharacter(0xFF), "b'\\xff'"),
             (Made::ByteString(b""), "b\"\""),
             (Made::ByteString(b"a'b\"c\\"), "b\"a\\'b\\\"c\\\\\""),
+            (
+                Made::ByteString(b"\0\t\n\r\"\\2\x10"),
+                "b\"\\x00\\t\\n\\r\\\"\\\\2\\x10\"",
+            ),
             (
                 Made::ByteString(b"\n\r\t\0\x7F\x80"),
                 "b\"\\n\\r\\t\\x00\\x7f\\x80\"",

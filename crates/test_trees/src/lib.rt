@@ -3,6 +3,8 @@
 #![tactic(auto)]
 
 #[cfg(test)]
+mod errors;
+#[cfg(test)]
 mod leaves;
 #[cfg(test)]
 mod texts;

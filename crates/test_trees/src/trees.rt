@@ -191,6 +191,7 @@ fn prints_streams(rt: HostRuntime) {
         &[
             (From::Hand, "a (b «c») +=", (9, 4, false)),
             (From::Text(" a(b«c»)+="), "a (b «c») +=", (9, 4, false)),
+            (From::Text("(x)[]{}«»"), "(x) [] {} «»", (9, 4, false)),
             (From::Text(""), "", (0, 0, true)),
         ],
     );

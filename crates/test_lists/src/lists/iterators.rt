@@ -367,3 +367,36 @@ fn all_counted(rt: &(impl Abort + AllocGlobal), rows: &[(&str, usize)]) {
 fn counts_values(rt: HostRuntime) {
     all_counted(&rt, &[("2,3;4", 3)]);
 }
+
+// Drops a list within a loop over it that ends there, and returns the value at which it does.
+fn dropped(alloc: Global, text: &str) -> Option<u32> {
+    let list = numbers(alloc, text)?;
+    let mut seen = 0u32;
+    for value in &list {
+        if *value == 2 {
+            seen = *value;
+            drop(list);
+            break;
+        }
+    }
+    Some(seen)
+}
+
+fn dropped_mut(alloc: Global, text: &str) -> Option<u32> {
+    let mut list = numbers(alloc, text)?;
+    let mut seen = 0u32;
+    for value in &mut list {
+        if *value == 2 {
+            seen = *value;
+            drop(list);
+            break;
+        }
+    }
+    Some(seen)
+}
+
+#[test]
+fn ends_a_loop_without_the_list(rt: HostRuntime) {
+    assert_eq!(rt; dropped(rt.alloc(), "1,2,3"), Some(2));
+    assert_eq!(rt; dropped_mut(rt.alloc(), "1,2,3"), Some(2));
+}

@@ -28,6 +28,8 @@ fn one<T: Parse + Drop>(alloc: Global, text: &str) -> Result<T, Stop> {
     made(parse_source::<T>(alloc, Edition::Edition2024, text))
 }
 
+// Without `LitFloat::value` and `signed_float_value`: both gather digits by std's `collect`, which can
+// do without some of its allocations.
 fn value(alloc: Global) -> Outcome {
     let literal = one::<LitStr>(alloc, "\"abcdefghijklmnop\"")?;
     let raw = one::<LitStr>(alloc, "r\"abcdefghijklmnop\"")?;
