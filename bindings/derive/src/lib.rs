@@ -1,4 +1,4 @@
-//! A derive whose input a parser in Rattle reads: `crates/example_fields`.
+//! A derive macro whose input is parsed by `crates/example_fields`, a parser in Rattle.
 mod parameters;
 mod table;
 
@@ -8,7 +8,7 @@ use syn_tokens::compiler::{Buffer, Error, Value};
 use syn_tokens::LiteralValue;
 use table::{Kind, Part, Table};
 
-/// Gives an item a function `fields`: the name, the type and the attributes of each field.
+/// Derives a function `fields`, which returns the name, the type and the attributes of each field.
 /// `#[field(name = "x")]` gives a field another name, and `#[field(skip)]` leaves it out.
 #[proc_macro_derive(Fields, attributes(field))]
 pub fn fields(tokens: proc_macro::TokenStream) -> proc_macro::TokenStream {

@@ -1,7 +1,7 @@
-//! The parameters of an item.
+//! Splits the generic parameters of an item.
 use proc_macro2::{Delimiter, TokenStream, TokenTree};
 
-/// Where the next tree of a parameter is.
+/// The place of the next token tree within a generic parameter.
 #[derive(PartialEq, Eq)]
 enum Place {
     Name,
@@ -9,8 +9,8 @@ enum Place {
     Default,
 }
 
-/// Splits the parameters of an item: those that an `impl` declares, which have no defaults, and
-/// their names, which are the arguments of the item.
+/// Splits the generic parameters of an item. Returns the parameters that an `impl` declares, which
+/// have no defaults, and the names of the parameters, which are the arguments of the item.
 pub fn split(params: TokenStream) -> (TokenStream, TokenStream) {
     let (mut declared, mut named) = (Vec::new(), Vec::new());
     let (mut place, mut depth, mut is_after_minus) = (Place::Name, 0_usize, false);

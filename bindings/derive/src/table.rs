@@ -1,4 +1,4 @@
-//! The table of a derive's input, and the user's own tokens by its ranges.
+//! The table of a derive macro's input, whose ranges select the user's own tokens.
 // A derive may not need all of it.
 #![allow(dead_code)]
 
@@ -15,7 +15,7 @@ use syn_tokens::Span;
 
 use crate::parameters;
 
-/// A range of tokens, laid out as the `Range` of `crates/example_fields`.
+/// A range of tokens, with the layout of `Range` in `crates/example_fields`.
 #[repr(C)]
 #[derive(Clone, Copy, Debug, PartialEq, Eq)]
 struct Range {
@@ -23,7 +23,7 @@ struct Range {
     end: usize,
 }
 
-/// A row, laid out as the `Row` of `crates/example_fields`, which says what each field is.
+/// A row, with the layout of `Row` in `crates/example_fields`, which describes each field.
 #[repr(C)]
 #[derive(Clone, Copy, Debug, PartialEq, Eq)]
 struct Row {
@@ -51,7 +51,7 @@ extern "C" {
     );
 }
 
-/// What a part of the input is.
+/// The kind of a part of the input.
 #[derive(Clone, Copy, Debug, PartialEq, Eq)]
 pub enum Kind {
     Struct,
@@ -63,7 +63,8 @@ pub enum Kind {
     Attribute,
 }
 
-/// The parts of a derive's input, in order: the item, its `where` clause, its variants and fields.
+/// The parts of a derive macro's input, in order: the item, its `where` clause, its variants and
+/// its fields.
 pub struct Table {
     buffer: Buffer,
     trees: Trees,
@@ -79,7 +80,7 @@ pub struct Part<'t> {
 }
 
 impl Table {
-    /// Parses the input of a derive.
+    /// Parses the input of a derive macro, and returns its table.
     pub fn read(tokens: TokenStream) -> Result<Table, Error> {
         let (trees, buffer) = (Trees::from(tokens.clone()), Buffer::from(tokens));
         // SAFETY: The export returns what `entry_outcomes::write` does, by its contract. `Row` is
@@ -88,7 +89,7 @@ impl Table {
         Ok(Table { buffer, trees, rows })
     }
 
-    /// Returns all parts but the attributes, which are inside them.
+    /// Returns all parts except the attributes, which are inside other parts.
     pub fn parts(&self) -> impl Iterator<Item = Part<'_>> {
         let mut rows = self.rows.iter();
         core::iter::from_fn(move || {
@@ -99,7 +100,7 @@ impl Table {
         })
     }
 
-    /// Returns `impl<..> Name<..> where ..`: how an `impl` of the item begins.
+    /// Returns `impl<..> Name<..> where ..`, the beginning of an `impl` of the item.
     pub fn head(&self) -> TokenStream {
         let of = |kind| self.parts().find(|it| kind == (it.kind() == Kind::Clause));
         let (item, clause) = (of(false), of(true).map(|it| it.value()));
@@ -126,24 +127,24 @@ impl<'t> Part<'t> {
         }
     }
 
-    /// Returns the form of an item or a variant: 0 without fields, 1 with fields in parentheses, 2
-    /// with fields in braces. Of an attribute: 0 for a path alone, 1 for tokens in delimiters, 2
-    /// for a value after `=`.
+    /// Returns the form of an item or a variant: 0 without fields, 1 with fields in parentheses, or
+    /// 2 with fields in braces. The form of an attribute is 0 for a path alone, 1 for tokens in
+    /// delimiters, or 2 for a value after `=`.
     pub fn form(&self) -> usize {
         self.row.form
     }
 
-    /// Returns `true` if there is a name: a field in parentheses has none.
+    /// Returns `true` if the part has a name. A field in parentheses has no name.
     pub fn is_named(&self) -> bool {
         self.row.name.start < self.row.name.end
     }
 
-    /// Returns the name; of an attribute the path.
+    /// Returns the name, or the path of an attribute.
     pub fn name(&self) -> TokenStream {
         self.table.tokens(self.row.name)
     }
 
-    /// Returns the text of the name. That of a path has `::` between the segments alone.
+    /// Returns the text of the name. The text of a path contains `::` only between its segments.
     pub fn text(&self) -> String {
         let words =
             (self.row.name.start..self.row.name.end).map(|it| self.table.buffer.leaf(it).text);
@@ -156,18 +157,18 @@ impl<'t> Part<'t> {
     }
 
     /// Returns the type of a field, the discriminant of a variant, the parameters of an item, the
-    /// predicates of a `where` clause; of an attribute the tokens in its delimiters, or its value.
+    /// predicates of a `where` clause, or the tokens or the value of an attribute.
     pub fn value(&self) -> TokenStream {
         self.table.tokens(self.row.value)
     }
 
-    /// Returns the attributes, without those that the compiler reads before.
+    /// Returns the attributes, except the attributes that the compiler has already processed.
     pub fn attributes(&self) -> impl Iterator<Item = Part<'t>> {
         let table = self.table;
         self.attributes.iter().map(move |&row| Part { table, row, attributes: &[] })
     }
 
-    /// Creates an error at the name, or at the value if there is none.
+    /// Creates an error at the name of the part, or at the value if the part has no name.
     pub fn error(&self, text: impl Display) -> Error {
         let range = if self.is_named() { self.row.name } else { self.row.value };
         self.table.buffer.error(Span { start: range.start, end: range.end }, text)

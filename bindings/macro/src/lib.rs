@@ -1,10 +1,11 @@
-//! A macro whose tokens a parser in Rattle reads: `crates/example_pairs`.
+//! A macro whose tokens are parsed by `crates/example_pairs`, a parser in Rattle.
 use proc_macro::TokenStream;
 use quote::quote;
 use syn_tokens::compiler::layout::{Entry, Message, Outcome};
 use syn_tokens::compiler::{Buffer, Error};
 
-/// A pair, laid out as the `FlatPair` of `crates/example_pairs`: the numbers of its two tokens.
+/// A pair, with the layout of `FlatPair` in `crates/example_pairs`. The fields contain the numbers
+/// of the pair's two tokens.
 #[repr(C)]
 #[derive(Clone, Copy)]
 struct FlatPair {
@@ -28,7 +29,8 @@ extern "C" {
     );
 }
 
-/// `example_pairs!(a => "x", b => "y")` is `[("a", "x"), ("b", "y")]`.
+/// Converts pairs to an array. For example, `example_pairs!(a => "x", b => "y")` expands to `[("a",
+/// "x"), ("b", "y")]`.
 #[proc_macro]
 pub fn example_pairs(tokens: TokenStream) -> TokenStream {
     match expanded(&Buffer::from(tokens)) {

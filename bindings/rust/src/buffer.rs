@@ -1,4 +1,4 @@
-//! Buffers of tokens, and cursors in them.
+//! Buffers of tokens, and cursors over the tokens of a buffer.
 use alloc::collections::TryReserveError;
 use alloc::string::String;
 use alloc::vec::Vec;
@@ -11,7 +11,7 @@ use core::str::FromStr;
 use crate::error::Error;
 use crate::ffi::{self, Entry, Held, Rules, Step, Wanted};
 
-/// An edition of Rust. The default is the newest one.
+/// An edition of Rust. The default is the newest edition.
 #[derive(Clone, Copy, Debug, Default, PartialEq, Eq, PartialOrd, Ord, Hash)]
 #[non_exhaustive]
 pub enum Edition {
@@ -26,7 +26,7 @@ pub enum Edition {
     Edition2024,
 }
 
-/// What is around a group.
+/// The delimiters of a group.
 #[derive(Clone, Copy, Debug, PartialEq, Eq, Hash)]
 pub enum Delimiter {
     /// `( .. )`
@@ -35,40 +35,42 @@ pub enum Delimiter {
     Brace,
     /// `[ .. ]`
     Bracket,
-    /// An invisible group, as macros leave around the tokens that they insert.
+    /// No visible delimiter. A group with this delimiter is invisible. Macros leave such groups
+    /// around the tokens that they insert.
     None,
 }
 
-/// Whether a punct is directly followed by another one that may belong to it.
+/// Whether another punct directly follows a punct and may belong to the same operator, such as
+/// `+=`.
 #[derive(Clone, Copy, Debug, PartialEq, Eq, Hash)]
 pub enum Spacing {
-    /// No punct follows directly, or one that cannot belong to it.
+    /// No punct directly follows this punct, or the next punct can't belong to the same operator.
     Alone,
-    /// A punct follows directly.
+    /// Another punct directly follows this punct.
     Joint,
 }
 
-/// A range of bytes of the text that was read.
+/// A range of bytes in the text that was read.
 #[derive(Clone, Copy, Debug, PartialEq, Eq, Hash)]
 pub struct Span {
-    /// The first byte.
+    /// The offset of the first byte.
     pub start: usize,
-    /// The byte after the last one.
+    /// The offset of the byte after the last byte.
     pub end: usize,
 }
 
 impl Span {
-    /// Returns the text at the span, where `text` is the text that was read.
+    /// Returns the part of `text` that the span covers, if `text` is the text that was read.
     ///
-    /// Returns `None` if `text` is another text, without these bytes. Spans of
-    /// [`Buffer::lex_marked`] count no marks, so they are no ranges of its text.
+    /// Returns `None` if `text` is another text that does not have these bytes.
+    /// [`Buffer::lex_marked`] does not count the bytes of `«` and `»`, so its spans are not ranges
+    /// of its text.
     #[must_use]
     pub fn source_text(self, text: &str) -> Option<&str> {
         text.get(self.start..self.end)
     }
 
-    /// Returns the span from the start of the one that begins first to the end of the one that
-    /// ends last.
+    /// Returns the span from the earlier start to the later end of the two spans.
     #[must_use]
     pub fn join(self, other: Span) -> Span {
         Span { start: self.start.min(other.start), end: self.end.max(other.end) }
@@ -81,7 +83,7 @@ impl From<Span> for Range<usize> {
     }
 }
 
-/// The tokens of a text.
+/// A buffer that holds the tokens of a text.
 ///
 /// ```
 /// use syn_tokens::{Buffer, Token};
@@ -102,13 +104,16 @@ pub struct Buffer {
 }
 
 impl Buffer {
-    /// Reads a text of the profile: no floats, no raw, byte and C strings, no doc comments. What is
-    /// left is read alike in each edition. A whole source is read by [`Buffer::lex_source`].
+    /// Reads a text that contains no floats, no raw strings, byte strings or C strings, and no doc
+    /// comments.
+    ///
+    /// Such a text has the same tokens in each edition. To read a whole source, use
+    /// [`Buffer::lex_source`].
     ///
     /// # Errors
     ///
-    /// Returns why the grammar rejects the text, that an allocation failed, or that the library is
-    /// of another version.
+    /// Returns an error if the grammar rejects the text, if an allocation fails, or if the library
+    /// has another version.
     ///
     /// ```
     /// use syn_tokens::{Buffer, Error};
@@ -120,22 +125,24 @@ impl Buffer {
         Buffer::read(Rules::Plain, text)
     }
 
-    /// Reads a text in which `«` and `»` open and close invisible groups. They take no bytes in
-    /// spans.
+    /// Reads a text in which `«` opens an invisible group and `»` closes it. Spans do not count the
+    /// bytes of these two characters.
     ///
     /// # Errors
     ///
-    /// As [`Buffer::lex`].
+    /// Returns the same errors as [`Buffer::lex`].
     pub fn lex_marked(text: &str) -> Result<Self, Error> {
         Buffer::read(Rules::Marked, text)
     }
 
-    /// Reads a whole Rust source. A doc comment stands for an attribute; a byte order mark and a
-    /// shebang line mean nothing.
+    /// Reads a whole Rust source.
+    ///
+    /// The lexer reads a doc comment as an attribute, and skips a byte order mark and a shebang
+    /// line.
     ///
     /// # Errors
     ///
-    /// As [`Buffer::lex`].
+    /// Returns the same errors as [`Buffer::lex`].
     pub fn lex_source(edition: Edition, text: &str) -> Result<Self, Error> {
         let year = match edition {
             Edition::Edition2015 => 2015,
@@ -177,19 +184,20 @@ impl Buffer {
         Cursor { entries: self.entries(), texts: self.texts() }
     }
 
-    /// Returns an iterator over the tokens: the same cursor.
+    /// Returns an iterator over the tokens. The iterator is the cursor that `tokens` returns.
     #[must_use]
     pub fn iter(&self) -> Cursor<'_> {
         self.tokens()
     }
 
-    /// Returns how many leaves, openings and closings there are.
+    /// Returns the number of leaf tokens and delimiters, including the delimiters of invisible
+    /// groups.
     #[must_use]
     pub fn len(&self) -> usize {
         self.entries().len()
     }
 
-    /// Returns `true` if there is no token.
+    /// Returns `true` if there are no tokens.
     #[must_use]
     pub fn is_empty(&self) -> bool {
         self.entries().is_empty()
@@ -218,7 +226,7 @@ impl Hash for Buffer {
 }
 
 impl fmt::Debug for Buffer {
-    /// Writes the tokens as text, in quotes.
+    /// Writes the tokens as a text in quotes.
     fn fmt(&self, f: &mut fmt::Formatter<'_>) -> fmt::Result {
         self.tokens().fmt(f)
     }
@@ -227,7 +235,7 @@ impl fmt::Debug for Buffer {
 impl FromStr for Buffer {
     type Err = Error;
 
-    /// Reads a whole source of the newest edition, as [`Buffer::lex_source`].
+    /// Reads a whole source of the newest edition, as [`Buffer::lex_source`] does.
     fn from_str(text: &str) -> Result<Self, Error> {
         Buffer::lex_source(Edition::default(), text)
     }
@@ -248,29 +256,29 @@ impl<'b> IntoIterator for &'b Buffer {
 pub struct Leaf<'b> {
     /// The text of the token. An identifier may begin with `r#`.
     pub text: &'b str,
-    /// Where the token is in the text that was read.
+    /// The location of the token in the text that was read.
     pub span: Span,
 }
 
-/// A character of a punctuation, or the apostrophe of a lifetime.
+/// A single punctuation character, or the apostrophe of a lifetime.
 #[derive(Clone, Copy, Debug, PartialEq, Eq, Hash)]
 #[non_exhaustive]
 pub struct Punct {
     /// The character.
     pub ch: char,
-    /// Whether another punct follows directly.
+    /// Whether another punct directly follows this punct.
     pub spacing: Spacing,
-    /// Where the character is in the text that was read.
+    /// The location of the character in the text that was read.
     pub span: Span,
 }
 
-/// A group.
+/// A group of tokens with its delimiters.
 #[derive(Clone, Debug, PartialEq, Eq, Hash)]
 #[non_exhaustive]
 pub struct Group<'b> {
-    /// What is around the tokens.
+    /// The delimiters around the tokens.
     pub delimiter: Delimiter,
-    /// A cursor at the first token inside.
+    /// A cursor at the first token inside the group.
     pub tokens: Cursor<'b>,
     /// The span of the opening delimiter.
     pub open: Span,
@@ -279,20 +287,20 @@ pub struct Group<'b> {
 }
 
 impl Group<'_> {
-    /// Returns the span from the opening delimiter to the closing one.
+    /// Returns the span from the opening delimiter to the closing delimiter.
     #[must_use]
     pub fn span(&self) -> Span {
         self.open.join(self.close)
     }
 }
 
-/// A lifetime: an apostrophe and a name.
+/// A lifetime, such as `'a`. It consists of an apostrophe and a name.
 #[derive(Clone, Copy, Debug, PartialEq, Eq, Hash)]
 #[non_exhaustive]
 pub struct Lifetime<'b> {
     /// The span of the apostrophe.
     pub apostrophe: Span,
-    /// The name after it.
+    /// The name after the apostrophe.
     pub ident: Leaf<'b>,
 }
 
@@ -304,12 +312,12 @@ impl Lifetime<'_> {
     }
 }
 
-/// A leaf or a group.
+/// A token: an identifier, a punct, a literal, or a group of tokens.
 #[derive(Clone, Debug, PartialEq, Eq, Hash)]
 pub enum Token<'b> {
     /// An identifier, a keyword or `_`.
     Ident(Leaf<'b>),
-    /// A character of a punctuation.
+    /// A single punctuation character.
     Punct(Punct),
     /// A literal.
     Literal(Leaf<'b>),
@@ -337,8 +345,10 @@ pub(crate) enum Piece<'b> {
     Closing(Delimiter),
 }
 
-/// A place among the tokens of a group or of a whole text, and an iterator over those from there
-/// on. A clone is a cursor at the same place.
+/// A position among the tokens of a group or of a whole text. A cursor is also an iterator over the
+/// tokens after its position.
+///
+/// A clone of a cursor is at the same position.
 #[derive(Clone)]
 pub struct Cursor<'b> {
     entries: &'b [Entry],
@@ -352,17 +362,18 @@ impl<'b> Cursor<'b> {
         self.entries.is_empty()
     }
 
-    /// Returns the next token, and stays before it.
+    /// Returns the next token without moving past it, or `None` if no token is left.
     #[must_use]
     pub fn peek(&self) -> Option<Token<'b>> {
         self.clone().next()
     }
 
-    /// Returns the next token and the cursor after it, if it is an identifier, keywords and `_`
-    /// included.
+    /// Returns the next token and the cursor after it, if the token is an identifier, a keyword or
+    /// `_`.
     ///
-    /// This call and those below look through the edges of invisible groups, as syn's cursor does.
-    /// They allocate nothing. An iterator yields such a group as a token.
+    /// This call and the other calls that return a cursor ignore the delimiters of invisible
+    /// groups, as the cursor of `syn` does, and allocate nothing. The iterator, however, yields an
+    /// invisible group as a token.
     ///
     /// ```
     /// use syn_tokens::{Buffer, Delimiter};
@@ -382,20 +393,21 @@ impl<'b> Cursor<'b> {
         self.leaf_at(self.step(Wanted::Ident)?)
     }
 
-    /// Returns the next token and the cursor after it, if it is a punct other than an apostrophe.
+    /// Returns the next token and the cursor after it, if the token is a punct other than an
+    /// apostrophe.
     #[must_use]
     pub fn punct(&self) -> Option<(Punct, Cursor<'b>)> {
         let step = self.step(Wanted::Punct)?;
         Some((self.punct_of(self.entries.get(step.at)?)?, self.after(step)?))
     }
 
-    /// Returns the next token and the cursor after it, if it is a literal.
+    /// Returns the next token and the cursor after it, if the token is a literal.
     #[must_use]
     pub fn literal(&self) -> Option<(Leaf<'b>, Cursor<'b>)> {
         self.leaf_at(self.step(Wanted::Literal)?)
     }
 
-    /// Returns the next lifetime and the cursor after it.
+    /// Returns the next lifetime and the cursor after it, or `None` if no lifetime is next.
     #[must_use]
     pub fn lifetime(&self) -> Option<(Lifetime<'b>, Cursor<'b>)> {
         let step = self.step(Wanted::Lifetime)?;
@@ -404,9 +416,9 @@ impl<'b> Cursor<'b> {
         Some((Lifetime { apostrophe, ident }, self.after(step)?))
     }
 
-    /// Returns the next group and the cursor after it, if it has this delimiter.
+    /// Returns the next group and the cursor after it, if the group has this delimiter.
     ///
-    /// [`Delimiter::None`] is not looked through: such a group is found if it is the next token.
+    /// With [`Delimiter::None`], the call finds an invisible group only if it is the next token.
     #[must_use]
     pub fn group(&self, delimiter: Delimiter) -> Option<(Group<'b>, Cursor<'b>)> {
         let number = match delimiter {
@@ -426,8 +438,8 @@ impl<'b> Cursor<'b> {
         Some((group, self.after(step)?))
     }
 
-    /// Returns the cursor after the next token: a lifetime, or else a leaf or a visible group.
-    /// Returns `None` if no such token is left.
+    /// Returns the cursor after the next token, which can be a lifetime, another leaf or a visible
+    /// group. Returns `None` if no such token is left.
     #[must_use]
     pub fn skip_token(&self) -> Option<Cursor<'b>> {
         self.after(self.step(Wanted::Any)?)
@@ -453,7 +465,8 @@ impl<'b> Cursor<'b> {
         })
     }
 
-    /// Returns an iterator over the groups among the tokens, without those inside them.
+    /// Returns an iterator over the groups among the tokens. The iterator does not yield the groups
+    /// inside these groups.
     ///
     /// ```
     /// use syn_tokens::{Buffer, Delimiter};
@@ -495,13 +508,14 @@ impl<'b> Cursor<'b> {
 }
 
 impl fmt::Debug for Cursor<'_> {
-    /// Writes the tokens that are left as text, in quotes.
+    /// Writes the remaining tokens as a text in quotes.
     fn fmt(&self, f: &mut fmt::Formatter<'_>) -> fmt::Result {
         write!(f, "\"{}\"", format_args!("{self}"))
     }
 }
 
-/// Two cursors are equal if equal tokens are left, spans included, in whichever buffers.
+/// Two cursors are equal if their remaining tokens are equal, including their spans. The cursors
+/// may be in different buffers.
 impl PartialEq for Cursor<'_> {
     fn eq(&self, other: &Self) -> bool {
         self.flat().eq(other.flat())
@@ -550,7 +564,7 @@ impl<'b> Iterator for Cursor<'b> {
 
 impl FusedIterator for Cursor<'_> {}
 
-/// An iterator over groups.
+/// An iterator over the groups among the remaining tokens of a cursor.
 #[derive(Clone, Debug)]
 pub struct Groups<'b> {
     tokens: Cursor<'b>,

@@ -1,13 +1,14 @@
-//! A compiler's own tokens: those of a macro's call, with the compiler's spans.
+//! The tokens of a macro call, with the compiler's own spans.
 //!
-//! A [`Buffer`] is made of a `TokenStream`. The library parses it: as arguments, or by a parser of
-//! one's own. An error is at the compiler's spans, and [`Error::to_compile_error`] makes of it what
-//! a macro returns.
+//! A `TokenStream` converts to a [`Buffer`]. The library parses the buffer as arguments, or with a
+//! parser of your own. An error has the compiler's spans, and [`Error::to_compile_error`] converts
+//! the error to tokens that a macro can return.
 //!
-//! The span of a visible token is its number, `n..n + 1`. The two delimiters of a group are a token
-//! each, and those of an invisible group take no number. So two streams of the same visible tokens
-//! have equal spans, whatever invisible groups the compiler has put around them. A range of numbers
-//! stands for the compiler's spans from its first token to its last.
+//! In a buffer of this module, the span of a visible token is its number, `n..n + 1`. Each
+//! delimiter of a visible group is a token, but the delimiters of an invisible group have no
+//! number. Two streams with the same visible tokens therefore have equal spans, whatever invisible
+//! groups the compiler has put around them. A range of numbers stands for the compiler's spans from
+//! the first token of the range to its last token.
 //!
 //! ```
 //! use syn_tokens::compiler::{Buffer, Value};
@@ -46,12 +47,12 @@ use crate::respond::Response;
 pub use crate::ffi::Export;
 pub use crate::trees::Trees;
 
-/// What an export returns, how it is laid out, and what it takes.
+/// The structs that an exported parser takes and returns, and their layout.
 pub mod layout {
     pub use crate::ffi::{Entry, Message, Outcome};
 }
 
-/// The tokens of a macro's call.
+/// The tokens of a macro call.
 #[derive(Clone, Debug, Default)]
 pub struct Buffer {
     tokens: buffer::Buffer,
@@ -60,8 +61,8 @@ pub struct Buffer {
     places: Vec<usize>,
 }
 
-/// Fills a buffer from the token streams of this crate. The streams around a group are kept on a
-/// stack of its own, so that no nesting takes more of the machine's.
+/// Fills a buffer from the token streams of this crate. The macro keeps the streams around a group
+/// in a vector, so that deep nesting does not use up the machine's stack.
 macro_rules! fill_from {
     ($fill:ident, $from:ident) => {
         fn $fill(&mut self, stream: $from::TokenStream) {
@@ -182,26 +183,27 @@ impl Buffer {
         }
     }
 
-    /// Returns a cursor at the first token. Spans are numbers of tokens.
+    /// Returns a cursor at the first token. The spans of its tokens are ranges of token numbers.
     #[must_use]
     pub fn tokens(&self) -> Cursor<'_> {
         self.tokens.tokens()
     }
 
-    /// Returns how many leaves, openings and closings there are, those of invisible groups too.
+    /// Returns the number of leaf tokens and delimiters, including the delimiters of invisible
+    /// groups.
     #[must_use]
     pub fn len(&self) -> usize {
         self.tokens.len()
     }
 
-    /// Returns `true` if there is no token.
+    /// Returns `true` if there are no tokens.
     #[must_use]
     pub fn is_empty(&self) -> bool {
         self.tokens.is_empty()
     }
 
-    /// Returns the identifier or literal with this number. Its text is empty if another token has
-    /// the number, or none.
+    /// Returns the identifier or literal with this number. If the number belongs to no identifier
+    /// or literal, the text of the returned leaf is empty.
     #[must_use]
     pub fn leaf(&self, number: usize) -> Leaf<'_> {
         let entry = self.places.get(number).and_then(|&place| self.tokens.entries.get(place));
@@ -213,7 +215,7 @@ impl Buffer {
     }
 
     /// Returns the compiler's spans of the first and the last token of a range. If the range is
-    /// empty, or not of this buffer, both are the call site.
+    /// empty or not in this buffer, both spans are the call site.
     #[must_use]
     pub fn ends(&self, span: Span) -> (other::Span, other::Span) {
         match self.spans.get(span.start..span.end) {
@@ -223,21 +225,23 @@ impl Buffer {
         }
     }
 
-    /// Returns the compiler's span of a range: from its first token to its last if the compiler
-    /// joins them, which a stable one does not, and else that of the first.
+    /// Returns the compiler's span of a range of tokens.
+    ///
+    /// If the compiler can join spans, the result reaches from the first token to the last token. A
+    /// stable compiler can't join spans, so the result is the span of the first token.
     #[must_use]
     pub fn span(&self, span: Span) -> other::Span {
         let (first, last) = self.ends(span);
         first.join(last).unwrap_or(first)
     }
 
-    /// Converts the tokens from a cursor on, each at the compiler's span. A group is at that of
-    /// [`Buffer::span`].
+    /// Converts the remaining tokens of a cursor to a `TokenStream`. Each token has the compiler's
+    /// span, and a group has the span that [`Buffer::span`] returns.
     ///
     /// # Errors
     ///
     /// Returns the first token that this version of `proc_macro2` does not know, or `$crate`, which
-    /// no macro can make.
+    /// no macro can create.
     pub fn stream(&self, tokens: Cursor<'_>) -> Result<TokenStream, UnknownToken> {
         crate::proc_macro2::stream(tokens, &|span| self.span(span))
     }
@@ -249,25 +253,27 @@ impl Buffer {
         Error::of(text.to_string(), start, end)
     }
 
-    /// Reads all tokens as arguments: `name`, `name = literal` and `name(..)`, with commas between
-    /// them, and nested.
+    /// Parses all tokens as a list of arguments with commas between them.
+    ///
+    /// An argument has the form `name`, `name = literal` or `name(..)`, with a list of arguments in
+    /// the parentheses.
     ///
     /// # Errors
     ///
-    /// Returns why the tokens are none, or that an allocation failed.
+    /// Returns an error if the tokens are not arguments, or if an allocation fails.
     pub fn arguments(&self) -> Result<ArgumentList<'_>, Error> {
         let answer = ffi::arguments(&self.tokens.entries, &self.tokens.texts);
         let arguments = self.settled(answer)?.values;
         Ok(ArgumentList { buffer: self, arguments })
     }
 
-    /// Runs commands, one a line, over the tokens. The page `docs/PROGRAM.md` of the repository has
-    /// the commands and what they print.
+    /// Runs commands over the tokens, with one command on each line. The page `docs/PROGRAM.md` of
+    /// the repository describes the commands and their output.
     ///
     /// # Errors
     ///
-    /// Returns an error if the library takes no such tokens, or if an allocation fails. An
-    /// unreadable line is none: the response has status 2.
+    /// Returns an error if the library rejects the tokens, or if an allocation fails. A line that
+    /// is not a command is no error. Instead, the response has status 2.
     ///
     /// ```
     /// use syn_tokens::compiler::Buffer;
@@ -287,16 +293,18 @@ impl Buffer {
         }
     }
 
-    /// Parses all tokens by an export of one's own, and returns the values that it has written.
+    /// Parses all tokens with an exported parser of your own, and returns the values that the
+    /// export has written.
     ///
     /// # Errors
     ///
-    /// Returns why the parser rejects the tokens, or that an allocation failed.
+    /// Returns an error if the parser rejects the tokens, or if an allocation fails.
     ///
     /// # Safety
     ///
-    /// The export must be one of a library in Rattle that returns what `entry_outcomes::write`
-    /// does. `T` must be laid out as its values, and any bytes must be a `T`.
+    /// The export must belong to a library in Rattle, and return what `entry_outcomes::write`
+    /// returns. `T` must have the same layout as the values of the export, and any bytes must be a
+    /// valid `T`.
     #[allow(unsafe_code)]
     pub unsafe fn call<T: Copy>(&self, export: Export<T>) -> Result<Values<T>, Error> {
         // SAFETY: The caller vouches for the export, and for the layout of its values.
@@ -350,7 +358,7 @@ impl Buffer {
 impl TryFrom<&Buffer> for TokenStream {
     type Error = UnknownToken;
 
-    /// Converts all tokens, as [`Buffer::stream`].
+    /// Converts all tokens of the buffer, as [`Buffer::stream`] does.
     fn try_from(buffer: &Buffer) -> Result<Self, UnknownToken> {
         buffer.stream(buffer.tokens())
     }
@@ -366,7 +374,7 @@ impl From<TokenStream> for Buffer {
 
 #[cfg(feature = "proc-macro")]
 impl From<proc_macro::TokenStream> for Buffer {
-    /// Takes the compiler's tokens as they are, without a detour by `proc_macro2`.
+    /// Converts the compiler's tokens directly, without converting them to `proc_macro2` first.
     fn from(stream: proc_macro::TokenStream) -> Self {
         let mut buffer = Buffer::default();
         buffer.fill_from_compiler(stream);
@@ -374,17 +382,17 @@ impl From<proc_macro::TokenStream> for Buffer {
     }
 }
 
-/// What an export has written: its values, and the texts that they speak of.
+/// The values that an export has written, and the texts that the values refer to.
 #[derive(Clone, Debug, PartialEq, Eq)]
 #[non_exhaustive]
 pub struct Values<T> {
     /// The values, in order.
     pub values: Vec<T>,
-    /// The texts.
+    /// The texts that the values refer to.
     pub texts: String,
 }
 
-/// Arguments, as [`Buffer::arguments`] reads them.
+/// A list of arguments, which [`Buffer::arguments`] returns.
 #[derive(Clone, Debug)]
 pub struct ArgumentList<'b> {
     buffer: &'b Buffer,
@@ -392,7 +400,7 @@ pub struct ArgumentList<'b> {
 }
 
 impl ArgumentList<'_> {
-    /// Returns an iterator over the arguments.
+    /// Returns an iterator over the arguments, in order.
     #[must_use]
     pub fn iter(&self) -> Arguments<'_> {
         Arguments { buffer: self.buffer, arguments: self.arguments.iter() }
@@ -408,28 +416,29 @@ impl<'l> IntoIterator for &'l ArgumentList<'_> {
     }
 }
 
-/// An argument: a name, and its value.
+/// An argument, which consists of a name and a value, such as `name = 1`.
 #[derive(Clone, Debug)]
 #[non_exhaustive]
 pub struct Argument<'l> {
-    /// The name, which is no keyword.
+    /// The name, which is not a keyword.
     pub name: Leaf<'l>,
-    /// What is after the name.
+    /// The value after the name.
     pub value: Value<'l>,
 }
 
 /// The value of an argument.
 #[derive(Clone, Debug)]
 pub enum Value<'l> {
-    /// A name alone.
+    /// The name has no value.
     Flag,
-    /// `= literal`
+    /// A literal after `=`.
     Literal(Leaf<'l>),
-    /// Arguments in parentheses, and the span from one parenthesis to the other.
+    /// Arguments in parentheses, and the span from the opening to the closing parenthesis.
     List(Span, Arguments<'l>),
 }
 
-/// An iterator over arguments, without those inside them.
+/// An iterator over a list of arguments. The iterator does not yield the arguments inside these
+/// arguments.
 #[derive(Clone, Debug)]
 pub struct Arguments<'l> {
     buffer: &'l Buffer,
@@ -462,15 +471,16 @@ impl FusedIterator for Arguments<'_> {}
 #[derive(Clone, Debug)]
 #[non_exhaustive]
 pub struct Message {
-    /// The words.
+    /// The text of the message.
     pub text: String,
     /// The compiler's span of the first token that the message is about.
     pub start: other::Span,
-    /// The compiler's span of the last one.
+    /// The compiler's span of the last token that the message is about.
     pub end: other::Span,
 }
 
-/// Why a compiler's tokens are rejected: one or more messages. It is shown as its first one.
+/// An error about a compiler's tokens, which consists of one or more messages. `Display` shows the
+/// first message.
 #[derive(Clone, Debug)]
 pub struct Error {
     first: Message,
@@ -478,7 +488,7 @@ pub struct Error {
 }
 
 impl Error {
-    /// Creates an error of one message.
+    /// Creates an error with one message.
     #[must_use]
     pub fn new(span: other::Span, text: impl Display) -> Self {
         Error::of(text.to_string(), span, span)
@@ -503,8 +513,8 @@ impl Error {
         core::iter::once(&self.first).chain(&self.more)
     }
 
-    /// Returns the tokens of `::core::compile_error! { "text" }` for each message, at which the
-    /// compiler reports it: from the first token that it is about to the last.
+    /// Returns the tokens of `::core::compile_error! { "text" }` for each message. The compiler
+    /// reports a message at the tokens that the message is about, from the first to the last.
     #[must_use]
     pub fn to_compile_error(&self) -> TokenStream {
         self.messages().flat_map(Message::to_trees).collect()

@@ -1,27 +1,27 @@
-//! Why a text is not read.
+//! The error of a call that reads a text.
 use alloc::collections::TryReserveError;
 use alloc::string::String;
 use core::fmt;
 
 use crate::ffi::{Reading, REJECTED};
 
-/// Why a text is not read.
+/// The reason why a text could not be read.
 #[derive(Clone, Debug, PartialEq, Eq)]
 #[non_exhaustive]
 pub enum Error {
     /// The grammar rejects the text.
     #[non_exhaustive]
     Rejected {
-        /// The number of the rule: 1 for L1.
+        /// The number of the grammar rule that rejects the text, such as 1 for rule L1.
         rule: u32,
-        /// The byte at which the token, comment or group begins that is not read.
+        /// The offset of the byte at which the token, comment or group that can't be read begins.
         at: usize,
-        /// The rule in words.
+        /// The text of the error.
         words: String,
     },
     /// An allocation failed.
     Memory,
-    /// The library that is linked is of another version: its structs are laid out in another way.
+    /// The linked library has another version, whose structs have a different layout.
     Version,
 }
 

@@ -1,5 +1,5 @@
-//! The calls of the static library. The `unsafe` of this package stands here, in `memory`, and in
-//! `compiler::Buffer::call`, whose caller names an export.
+//! The calls of the static library. Only this module, `memory`, and `compiler::Buffer::call`
+//! contain `unsafe` code. A caller of `compiler::Buffer::call` names an export.
 #![allow(unsafe_code)]
 
 use alloc::collections::TryReserveError;
@@ -11,8 +11,8 @@ use core::{ptr, slice, str};
 use crate::error::Error;
 use crate::memory::shrunk;
 
-/// A leaf, an opening or a closing, as the library takes and writes it. The page `docs/BINDINGS.md`
-/// of the repository says what the fields hold.
+/// An entry, which is a leaf token, an opening delimiter or a closing delimiter. The page
+/// `docs/BINDINGS.md` of the repository describes the fields.
 #[repr(C)]
 #[derive(Clone, Copy, Debug, Default, PartialEq, Eq, Hash)]
 #[allow(missing_docs)]
@@ -34,7 +34,7 @@ pub const LITERAL: u32 = 2;
 pub const OPENING: u32 = 3;
 pub const CLOSING: u32 = 4;
 
-/// What came of a text.
+/// The outcome of a call that reads a text.
 #[repr(C)]
 #[derive(Clone, Copy, Debug, Default, PartialEq, Eq)]
 pub struct Reading {
@@ -45,7 +45,8 @@ pub struct Reading {
     pub bytes: usize,
 }
 
-/// What came of a text, and where its entries and texts lie until the handle is closed.
+/// The outcome of opening a text, with pointers to its entries and texts, which are valid until the
+/// handle is closed.
 #[repr(C)]
 struct Opened {
     reading: Reading,
@@ -61,7 +62,7 @@ const NO_ROOM: u32 = 4;
 #[cfg(feature = "proc-macro2")]
 pub const MALFORMED: u32 = 6;
 
-/// What an export returns.
+/// The outcome that an exported parser returns.
 #[repr(C)]
 #[derive(Clone, Copy, Debug, Default, PartialEq, Eq)]
 #[allow(missing_docs)]
@@ -74,7 +75,7 @@ pub struct Outcome {
     pub bytes: usize,
 }
 
-/// A message of an error, as an export writes it: its span, and the range of its text.
+/// A message of an error, as an export writes it, with its span and the range of its text.
 #[repr(C)]
 #[derive(Clone, Copy, Debug, Default, PartialEq, Eq)]
 #[allow(missing_docs)]
@@ -109,7 +110,7 @@ pub struct Value {
     pub bytes: usize,
 }
 
-/// Where a token is among the entries that are left, and the entry to go on with.
+/// The location of a token among the remaining entries, and the entry to continue with.
 #[repr(C)]
 #[derive(Clone, Copy, Debug, Default, PartialEq, Eq)]
 pub struct Step {
@@ -118,7 +119,8 @@ pub struct Step {
     pub next: usize,
 }
 
-/// A place in a text; 0 and 0 where there is none.
+/// The line and the column of a byte in a text. Both numbers are 0 if the byte has no line and
+/// column.
 #[repr(C)]
 #[derive(Clone, Copy, Debug, Default, PartialEq, Eq)]
 pub struct Place {
@@ -126,7 +128,7 @@ pub struct Place {
     pub column: usize,
 }
 
-/// What a cursor looks for.
+/// The kind of token that a cursor looks for.
 #[derive(Clone, Copy)]
 pub enum Wanted {
     Ident,
@@ -137,7 +139,7 @@ pub enum Wanted {
     Any,
 }
 
-/// By which rules a text is read.
+/// The rules by which a text is read.
 #[derive(Clone, Copy)]
 pub enum Rules {
     Plain,
@@ -218,7 +220,7 @@ extern "C" {
     );
 }
 
-/// Whether the structs of this module are laid out as those of the library.
+/// Returns `true` if the structs of this module have the same layout as those of the library.
 fn is_of_this_version() -> bool {
     static IS_CHECKED: AtomicBool = AtomicBool::new(false);
     if IS_CHECKED.load(Ordering::Relaxed) {
@@ -252,7 +254,8 @@ fn is_of_this_version() -> bool {
     is_same
 }
 
-/// Whether the structs of calls that take entries or literals are laid out as those of the library.
+/// Returns `true` if the structs of calls that take entries or literals have the same layout as
+/// those of the library.
 fn answers_match() -> bool {
     let (mut outcome, mut value) = ([0u64; 128], [0u64; 128]);
     let (mut messages, mut arguments) = ([0u64; 128], [0u64; 128]);
@@ -289,7 +292,8 @@ fn answers_match() -> bool {
     outcome == wanted && messages == [message; 2] && arguments == [argument; 2] && value == number
 }
 
-/// Whether the structs of the calls of a cursor and of lines are laid out as those of the library.
+/// Returns `true` if the structs of the calls of a cursor and of lines have the same layout as
+/// those of the library.
 fn places_match() -> bool {
     let (mut step, mut places) = ([0u64; 128], [0u64; 128]);
     // SAFETY: The pointers are to live, initialized and aligned memory that is not shared, and that
@@ -301,7 +305,8 @@ fn places_match() -> bool {
     step == Step { at: 35, last: 36, next: 37 } && places == [Place { line: 38, column: 39 }; 2]
 }
 
-/// Whether the struct of an opened text is laid out as the library's, by the distance of two.
+/// Returns `true` if the struct of an opened text has the same layout as the library's, which the
+/// distance between two of them shows.
 fn opened_match() -> bool {
     let mut opened = [u64::MAX; 128];
     // SAFETY: The pointer is to live, initialized and aligned memory that is not shared, and that is
@@ -314,13 +319,13 @@ fn opened_match() -> bool {
     opened.iter().all(|it| it.reading == wanted && it.entries.is_null() && it.texts.is_null())
 }
 
-/// Returns what the library has written as a text. It writes nothing but texts.
+/// Converts bytes that the library has written to a text. The library writes only valid texts.
 pub fn text_of(bytes: Vec<u8>) -> String {
     String::from_utf8(bytes)
         .unwrap_or_else(|error| String::from_utf8_lossy(error.as_bytes()).into_owned())
 }
 
-/// Entries and bytes that the library holds until this is dropped.
+/// Entries and bytes that the library holds until this value is dropped.
 pub struct Held {
     // Null if nothing is held. Then there are no entries and no bytes.
     handle: *mut u8,
@@ -338,7 +343,7 @@ impl Held {
         }
     }
 
-    /// Returns the texts of the leaves, or the words of the error.
+    /// Returns the texts of the leaves, or the text of the error.
     pub fn texts(&self) -> &str {
         // SAFETY: `lex` has tested the bytes, and nobody writes to them.
         unsafe { str::from_utf8_unchecked(self.bytes()) }
@@ -366,8 +371,8 @@ unsafe impl Send for Held {}
 // SAFETY: As above.
 unsafe impl Sync for Held {}
 
-/// Reads a text, and returns what came of it, and what holds its entries and the texts of its
-/// leaves or the words of its error.
+/// Reads a text. Returns the outcome, and a value that holds the entries and either the texts of
+/// the leaves or the text of the error.
 pub fn lex(rules: Rules, text: &str) -> Result<(Reading, Held), Error> {
     if !is_of_this_version() {
         return Err(Error::Version);
@@ -393,7 +398,7 @@ pub fn lex(rules: Rules, text: &str) -> Result<(Reading, Held), Error> {
     Ok((reading, held))
 }
 
-/// Answers an input as the program does, and returns its status and what it prints.
+/// Runs the program over an input, and returns the program's status and output.
 pub fn respond(input: &[u8]) -> Result<(u8, String), TryReserveError> {
     let mut printed: Vec<u8> = Vec::new();
     printed.try_reserve_exact(4096)?;
@@ -413,7 +418,8 @@ pub fn respond(input: &[u8]) -> Result<(u8, String), TryReserveError> {
     }
 }
 
-/// Returns where the next token is, if it is what is wanted. `texts` are the texts of all entries.
+/// Returns the location of the next token, if the token is of the wanted kind. `texts` contains the
+/// texts of all entries.
 pub fn step(wanted: Wanted, entries: &[Entry], texts: &str) -> Option<Step> {
     if !is_of_this_version() {
         return None;
@@ -441,7 +447,7 @@ pub fn step(wanted: Wanted, entries: &[Entry], texts: &str) -> Option<Step> {
     }
 }
 
-/// Returns the place before each of these bytes of a text.
+/// Returns the line and the column of each of these byte offsets of a text.
 pub fn lines(text: &str, bytes: &[usize]) -> Result<Vec<Place>, Error> {
     if !is_of_this_version() {
         return Err(Error::Version);
@@ -462,8 +468,8 @@ pub fn lines(text: &str, bytes: &[usize]) -> Result<Vec<Place>, Error> {
     Ok(places)
 }
 
-/// Reads the text of a literal, and returns what came of it, and the bytes of a string. No memory is
-/// kept but these bytes.
+/// Reads the text of a literal, and returns the outcome and the bytes of a string. The call keeps
+/// no memory except these bytes.
 pub fn value(text: &str) -> Result<(Value, Vec<u8>), Error> {
     if !is_of_this_version() {
         return Err(Error::Version);
@@ -496,7 +502,7 @@ pub fn value(text: &str) -> Result<(Value, Vec<u8>), Error> {
     }
 }
 
-/// The calls that take entries.
+/// The calls that parse entries.
 #[cfg(feature = "proc-macro2")]
 pub use self::taken::{arguments, call, replay, Answer, Export};
 
@@ -508,8 +514,8 @@ mod taken {
     use alloc::string::String;
     use alloc::vec::Vec;
 
-    /// An export that parses entries: the entries and the bytes of their texts, room for its
-    /// values, for messages and for bytes, and the outcome.
+    /// An exported function that parses entries. It takes the entries and the bytes of their texts,
+    /// room for values, messages and bytes, and the outcome to write.
     pub type Export<T> = unsafe extern "C" fn(
         entries: *const Entry,
         count: usize,
@@ -551,7 +557,7 @@ mod taken {
         );
     }
 
-    /// All that an export has written.
+    /// Everything that an exported parser has written.
     #[derive(Debug)]
     pub struct Answer<T> {
         pub outcome: Outcome,
@@ -564,8 +570,9 @@ mod taken {
     ///
     /// # Safety
     ///
-    /// The export must read the entries and texts alone, write only what it says, and say how much
-    /// it has written. `T` must be laid out as its values, and any bytes must be a `T`.
+    /// The export must read only the entries and texts, write only into the room that it is given,
+    /// and report how much it has written. `T` must have the same layout as the export's values,
+    /// and any bytes must be a valid `T`.
     pub unsafe fn call<T>(
         export: Export<T>,
         entries: &[Entry],
@@ -617,14 +624,14 @@ mod taken {
         Err(Error::Version)
     }
 
-    /// Reads entries as arguments.
+    /// Parses entries as arguments.
     pub fn arguments(entries: &[Entry], texts: &str) -> Result<Answer<FlatArgument>, Error> {
         // SAFETY: The library's export keeps to what is asked, and `is_of_this_version` has looked
         // at the layout of its values. Any bytes are a `FlatArgument`.
         unsafe { call(syn_tokens_arguments, entries, texts) }
     }
 
-    /// Runs commands, one a line, over entries.
+    /// Runs commands over entries, with one command on each line.
     pub fn replay(
         entries: &[Entry],
         texts: &str,

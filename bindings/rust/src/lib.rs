@@ -1,11 +1,11 @@
 //! Tokens of Rust source text, read by a proved library.
 //!
-//! The contracts of the library say which texts are read as which tokens, and which are rejected
-//! and why. This package turns what the library writes into safe types, without a proof; its
-//! modules with `unsafe` say why each call is sound.
+//! The contracts of the library state which tokens each text has, and why the library rejects other
+//! texts. This package converts the output of the library to safe types, without a proof. Its
+//! modules with `unsafe` code explain why each call is sound.
 //!
-//! No call panics. A library of another version, which lays its structs out in another way, is an
-//! error of each call that reads a text or takes tokens.
+//! No call panics. If the library has another version, whose structs have a different layout, each
+//! call that reads a text or takes tokens returns an error.
 //!
 //! ```
 //! use syn_tokens::{Buffer, Token};

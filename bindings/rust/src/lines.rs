@@ -4,26 +4,26 @@ use alloc::vec::Vec;
 use crate::error::Error;
 use crate::ffi;
 
-/// A place in a text: its line, and its column in characters. Both count from 1.
+/// A position in a text: a line, and a column in characters. Both are counted from 1.
 ///
-/// The columns of `proc_macro2` count from 0.
+/// The columns of `proc_macro2` are counted from 0.
 #[derive(Clone, Copy, Debug, PartialEq, Eq, PartialOrd, Ord, Hash)]
 #[non_exhaustive]
 pub struct LineColumn {
-    /// The line.
+    /// The line, counted from 1.
     pub line: usize,
-    /// The column.
+    /// The column, counted from 1.
     pub column: usize,
 }
 
-/// Returns the line and the column of the place before each of these bytes of a text: `None` for a
-/// byte within a character or after the end of the text.
+/// Returns the line and the column of each byte offset in `bytes`, or `None` for an offset within a
+/// character or after the end of the text.
 ///
-/// It reads the text once to find its lines, and for each byte the line in which it is.
+/// The call reads the text once to find its lines, and then reads one line for each offset.
 ///
 /// # Errors
 ///
-/// Returns that an allocation failed, or that the library is of another version.
+/// Returns an error if an allocation fails, or if the library has another version.
 ///
 /// ```
 /// use syn_tokens::{line_columns, Buffer};

@@ -1,4 +1,5 @@
-//! Tokens as text: a space between two tokens, unless the first is a joint punct.
+//! Writes tokens as a text, with a space between two tokens unless the first token is a joint
+//! punct.
 use core::fmt::{self, Display, Formatter};
 
 use crate::buffer::{Buffer, Cursor, Delimiter, Group, Piece, Spacing, Token};
@@ -10,7 +11,7 @@ impl Display for Buffer {
 }
 
 impl Display for Cursor<'_> {
-    /// Writes the tokens that are left.
+    /// Writes the remaining tokens.
     fn fmt(&self, f: &mut Formatter<'_>) -> fmt::Result {
         // The entries in order, and not group by group, so that no nesting takes more of the stack.
         let mut is_first = true;

@@ -1,4 +1,4 @@
-//! Buffers as token streams of `proc_macro2`.
+//! Converts buffers to token streams of `proc_macro2`.
 use ::proc_macro2::{self as other, TokenStream, TokenTree};
 use alloc::string::{String, ToString};
 use alloc::vec::Vec;
@@ -6,14 +6,14 @@ use core::{fmt, mem};
 
 use crate::buffer::{Buffer, Cursor, Delimiter, Leaf, Punct, Spacing, Span, Token};
 
-/// A token that this version of `proc_macro2` has no value for: a kind of literal or a character of
-/// a name that is newer than it.
+/// A token that this version of `proc_macro2` does not know. The token is a kind of literal that is
+/// newer than this version, or its name contains a character that is newer.
 #[derive(Clone, Debug, PartialEq, Eq)]
 #[non_exhaustive]
 pub struct UnknownToken {
     /// The text of the token.
     pub text: String,
-    /// Where the token is in the text that was read.
+    /// The location of the token in the text that was read.
     pub span: Span,
 }
 
@@ -29,12 +29,12 @@ impl std::error::Error for UnknownToken {}
 impl TryFrom<Buffer> for TokenStream {
     type Error = UnknownToken;
 
-    /// Converts the tokens. Each is at the call site.
+    /// Converts the tokens of the buffer. The span of each token is the call site.
     ///
     /// # Errors
     ///
-    /// Returns the first token that this version of `proc_macro2` does not know, as a C string or a
-    /// name in a newer version of Unicode.
+    /// Returns the first token that this version of `proc_macro2` does not know, such as a C string
+    /// or a name in a newer version of Unicode.
     fn try_from(buffer: Buffer) -> Result<Self, UnknownToken> {
         TokenStream::try_from(&buffer)
     }
@@ -48,10 +48,11 @@ impl TryFrom<&Buffer> for TokenStream {
     }
 }
 
-/// The span that `proc_macro2` is to have for one of the library.
+/// A function that returns the span of `proc_macro2` for a span of the library.
 type Spans<'s> = &'s dyn Fn(Span) -> other::Span;
 
-/// Converts the tokens from the cursor on. The groups around them are on a stack of its own.
+/// Converts the remaining tokens of a cursor. The call keeps the groups around these tokens on a
+/// stack of its own.
 pub(crate) fn stream(tokens: Cursor<'_>, spans: Spans<'_>) -> Result<TokenStream, UnknownToken> {
     let mut outer = Vec::new();
     let mut tokens = tokens;

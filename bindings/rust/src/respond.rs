@@ -1,33 +1,36 @@
-//! Commands over the tokens of a text.
+//! Runs commands over the tokens of a text.
 use alloc::string::String;
 
 use crate::error::Error;
 use crate::ffi;
 
-/// What the program prints, and its status.
+/// The output of the program for an input, and the program's status.
 #[derive(Clone, Debug, PartialEq, Eq)]
 #[non_exhaustive]
 pub struct Response {
-    /// [`Response::ACCEPTED`], [`Response::REJECTED`] or [`Response::UNREADABLE`].
+    /// The status, which is [`Response::ACCEPTED`], [`Response::REJECTED`] or
+    /// [`Response::UNREADABLE`].
     pub status: u8,
-    /// The report, or one line that says why the input is unreadable.
+    /// The report of the commands, or one line that says why the input is unreadable.
     pub text: String,
 }
 
 impl Response {
-    /// The status if each verdict accepts.
+    /// The status of a response whose verdicts all accept.
     pub const ACCEPTED: u8 = 0;
-    /// The status if a verdict rejects.
+    /// The status of a response with a verdict that rejects.
     pub const REJECTED: u8 = 1;
-    /// The status if the input is unreadable.
+    /// The status of a response to an unreadable input.
     pub const UNREADABLE: u8 = 2;
 }
 
 // The status if an allocation failed.
 const NO_MEMORY: u8 = 3;
 
-/// Answers an input as the program does: a text, a line `---`, and commands. The page
-/// `docs/PROGRAM.md` of the repository has the commands and what they print.
+/// Runs the program over an input, and returns its output and its status.
+///
+/// The input consists of a text, a line `---`, and commands. The page `docs/PROGRAM.md` of the
+/// repository describes the commands and their output.
 ///
 /// # Errors
 ///

@@ -1,14 +1,15 @@
-//! A compiler's own trees, by the numbers of their visible tokens.
+//! Finds a compiler's own trees by the numbers of their visible tokens.
 use ::proc_macro2::{Delimiter, TokenStream, TokenTree};
 use alloc::vec::Vec;
 use core::mem;
 
 use crate::buffer::Span;
 
-/// The trees of a stream, by the numbers that a [`Buffer`] of the stream has for its tokens.
+/// The token trees of a stream, which are found by the numbers that a [`Buffer`] of the stream
+/// gives to its tokens.
 ///
-/// A macro takes from here what it passes on. The trees are the compiler's own: they keep their
-/// spans, and `$crate` stays what it is.
+/// A macro can take the trees that it passes on from here. They are the compiler's own trees, so
+/// they keep their spans, and `$crate` stays unchanged.
 ///
 /// ```
 /// use syn_tokens::compiler::Trees;
@@ -25,7 +26,7 @@ pub struct Trees {
     trees: Vec<Numbered>,
 }
 
-/// A tree, before those inside it.
+/// A tree, which is stored before the trees inside it.
 #[derive(Clone, Debug)]
 struct Numbered {
     tree: TokenTree,
@@ -37,9 +38,11 @@ struct Numbered {
 }
 
 impl Trees {
-    /// Returns the trees of a range of tokens. An invisible group that lies in the range is kept,
-    /// and one that does not is looked through. A visible group is kept if both its delimiters are
-    /// in the range, and else only what the range has of its contents.
+    /// Returns the trees of a range of tokens.
+    ///
+    /// An invisible group is kept if the whole group is in the range. Otherwise, the call looks for
+    /// trees inside the group. A visible group is kept if both its delimiters are in the range.
+    /// Otherwise, the call returns only those trees of the group that are in the range.
     #[must_use]
     pub fn part(&self, span: Span) -> TokenStream {
         let mut place = self.trees.partition_point(|it| it.start < span.start);
@@ -63,7 +66,8 @@ impl Trees {
 }
 
 impl From<TokenStream> for Trees {
-    /// Numbers the trees. The streams around a group are on a stack of its own.
+    /// Numbers the trees of a stream. The call keeps the streams around a group on a stack of its
+    /// own.
     fn from(stream: TokenStream) -> Self {
         let mut all: Vec<Numbered> = Vec::new();
         let mut outer = Vec::new();

@@ -6,11 +6,12 @@ use crate::buffer::Leaf;
 use crate::error::Error;
 use crate::ffi;
 
-/// The value of a literal.
+/// The value of a literal, as [`Leaf::value`] returns it.
 #[derive(Clone, Debug, PartialEq)]
 #[non_exhaustive]
 pub enum LiteralValue<'b> {
-    /// The text of a string. Escapes are replaced by what they name.
+    /// The text of a string, in which each escape is replaced with the character that it stands
+    /// for.
     Str(String),
     /// The bytes of a byte string.
     ByteStr(Vec<u8>),
@@ -20,25 +21,28 @@ pub enum LiteralValue<'b> {
     Byte(u8),
     /// An integer.
     Int {
-        /// The value.
+        /// The value of the integer.
         value: u64,
-        /// The suffix, as `u8`, or an empty text.
+        /// The suffix of the integer, such as `u8`, or an empty text.
         suffix: &'b str,
     },
-    /// The nearest double to a float, or to a decimal integer that is no `u64`.
+    /// The `f64` nearest to a float, or to a decimal integer that does not fit in a `u64`.
     Float(f64),
 }
 
 impl<'b> Leaf<'b> {
-    /// Returns the value of a literal. Returns `None` for an identifier, and for a literal of which
-    /// the library gives none: a raw string, a C string, a string with a suffix, an integer of
-    /// another base that no `u64` has, and a literal that a macro has made with a sign, as `-3`.
+    /// Returns the value of a literal. Returns `None` for an identifier, and for a literal without
+    /// a value in this library.
+    ///
+    /// The literals without a value are raw strings, C strings, strings with a suffix, integers of
+    /// another base that do not fit in a `u64`, and literals with a sign. A macro can create a
+    /// literal with a sign, such as `-3`.
     ///
     /// Digits with the suffix `f32`, as in `1f32`, are an integer with this suffix.
     ///
     /// # Errors
     ///
-    /// Returns that an allocation failed, or that the library is of another version.
+    /// Returns an error if an allocation fails, or if the library has another version.
     ///
     /// ```
     /// use syn_tokens::{Buffer, LiteralValue, Token};

@@ -1,4 +1,4 @@
-//! Buffers of `proc_macro2` streams, outside a compiler.
+//! Tests of buffers of `proc_macro2` streams, outside a compiler.
 #![cfg(feature = "proc-macro2")]
 use proc_macro2::{Delimiter, Group, Ident, Span, TokenStream, TokenTree};
 use syn_tokens::compiler::{Arguments, Buffer, Error, Trees, Value};
@@ -7,7 +7,7 @@ fn buffer(text: &str) -> Buffer {
     Buffer::from(text.parse::<TokenStream>().expect("proc_macro2 reads it"))
 }
 
-/// A stream of a text in which `@` and a parenthesis stand for an invisible group.
+/// Returns the stream of a text in which `@` and parentheses stand for an invisible group.
 fn marked(text: &str) -> TokenStream {
     let trees = text.parse::<TokenStream>().expect("proc_macro2 reads it").into_iter();
     let mut is_marked = false;
@@ -140,7 +140,7 @@ fn nested_groups() {
     assert!(buffer.arguments().is_err());
 }
 
-/// A stream as text, with `@` and parentheses around an invisible group.
+/// Returns the text of a stream, with `@` and parentheses for an invisible group.
 fn shown(stream: TokenStream) -> String {
     let all: Vec<String> = stream
         .into_iter()

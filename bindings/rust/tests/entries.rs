@@ -1,5 +1,6 @@
-//! Entries with one field changed, given to the library: each that breaks the shape is rejected,
-//! and the others have another span, spacing or kind.
+//! Tests of the library with entries in which one field was changed. The library rejects the
+//! entries that do not form a token stream. The other entries have a different span, spacing or
+//! kind.
 #![cfg(feature = "proc-macro2")]
 // A changed field is any number.
 #![allow(clippy::cast_possible_truncation)]

@@ -1,5 +1,5 @@
-//! What memory calls ask for, counted by an allocator: room that is not needed is given back, and
-//! each allocation may fail.
+//! Tests of the memory that calls allocate, which an allocator counts. The calls release memory
+//! that they do not need, and each allocation may fail.
 #![deny(unsafe_op_in_unsafe_fn)]
 // Clippy of 1.63 finds it in what `thread_local` makes.
 #![allow(clippy::declare_interior_mutable_const)]
@@ -11,24 +11,25 @@ use syn_tokens::{line_columns, respond, Buffer, Edition, Error};
 
 // Each thread has counts of its own, since tests run side by side.
 thread_local! {
-    /// How many requests are granted before one fails; none fails if it is `usize::MAX`.
+    /// The number of requests that are granted before one fails. If this number is `usize::MAX`, no
+    /// request fails.
     static GRANTED: Cell<usize> = const { Cell::new(usize::MAX) };
-    /// How many bytes are held.
+    /// The number of bytes that are allocated and not yet freed.
     static HELD: Cell<usize> = const { Cell::new(0) };
-    /// Whether no block can be made smaller.
+    /// Whether the allocator refuses to make a block smaller.
     static IS_STUBBORN: Cell<bool> = const { Cell::new(false) };
 }
 
 struct Counting;
 
 impl Counting {
-    /// Counts that a block of one size becomes one of another.
+    /// Counts the change of a block from one size to another.
     fn count(from: usize, to: usize) {
         // At a thread's end there is nothing to count.
         let _ = HELD.try_with(|it| it.set(it.get().wrapping_add(to).wrapping_sub(from)));
     }
 
-    /// Returns whether a request is the one that fails.
+    /// Returns `true` if this request is the one that fails.
     fn fails() -> bool {
         GRANTED
             .try_with(|it| {
@@ -73,7 +74,7 @@ unsafe impl GlobalAlloc for Counting {
 #[global_allocator]
 static COUNTING: Counting = Counting;
 
-/// More room than this is given back, of the entries and of the texts.
+/// The number of unused bytes of the entries, or of the texts, above which a call releases them.
 const WASTE: usize = 4096;
 
 #[test]
@@ -105,7 +106,7 @@ fn room_that_cannot_be_given_back_is_kept() -> Result<(), Error> {
     Ok(())
 }
 
-/// Makes each allocation of a call fail in turn, and returns how many there are.
+/// Makes each allocation of a call fail in turn, and returns the number of allocations.
 fn fail_each<T>(call: impl Fn() -> Result<T, Error>) -> usize {
     for number in 0.. {
         GRANTED.with(|it| it.set(number));
@@ -135,7 +136,7 @@ fn each_allocation_may_fail() {
     assert_eq!(HELD.with(Cell::get), before);
 }
 
-/// A rejected text is no failure of memory.
+/// Converts the error of a rejected text to `Ok`, since it is not an allocation failure.
 fn ended(error: Error) -> Result<(), Error> {
     match error {
         Error::Rejected { .. } => Ok(()),

@@ -1,4 +1,5 @@
-//! What no example shows: each list of rules, errors, spans, and room that is too little at first.
+//! Tests of calls that no example shows: each list of rules, errors, spans, and too little room at
+//! first.
 use std::ops::Range;
 
 use syn_tokens::{
@@ -6,7 +7,7 @@ use syn_tokens::{
     Response, Spacing, Token,
 };
 
-/// Lists the tokens in order, a group as its edges.
+/// Lists the tokens in order, with the delimiters of each group.
 fn listed(buffer: &Buffer) -> String {
     fn list(tokens: syn_tokens::Cursor<'_>, out: &mut Vec<String>) {
         for token in tokens {
@@ -157,7 +158,7 @@ fn values() -> Result<(), Error> {
     Ok(())
 }
 
-/// Lists the tokens that a cursor finds in order, a group as its edges.
+/// Lists the tokens that a cursor finds, in order, with the delimiters of each group.
 fn found(tokens: &Cursor<'_>, out: &mut Vec<String>) {
     let visible = [
         (Delimiter::Parenthesis, ["(", ")"]),
@@ -209,7 +210,8 @@ fn cursors_look_through_invisible_groups() -> Result<(), Error> {
     Ok(())
 }
 
-/// A cursor that has looked into an invisible group goes on after it.
+/// Tests that a cursor continues after an invisible group once it has read the tokens inside the
+/// group.
 #[test]
 fn cursors_leave_invisible_groups() -> Result<(), Error> {
     let buffer = Buffer::lex_marked("«« a b » c» d")?;
@@ -234,7 +236,7 @@ fn invisible_groups_are_found_first_alone() -> Result<(), Error> {
     Ok(())
 }
 
-/// The value of a long string is written in a second call.
+/// Tests that the library returns the value of a long string, which takes a second call.
 #[test]
 fn long_strings_have_values() -> Result<(), Error> {
     for length in [0, 1, 127, 128, 129, 1000] {

@@ -1,4 +1,4 @@
-//! The table of an item is the same in each layout: whatever trees an invisible group is around.
+//! Tests that the table of an item is the same, whatever trees an invisible group is around.
 use proc_macro2::{Delimiter, Group, TokenStream, TokenTree};
 
 use super::{Row, Table};

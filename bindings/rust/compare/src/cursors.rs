@@ -1,4 +1,4 @@
-//! The same tokens through syn's cursor and through ours.
+//! Compares the cursor of `syn` with the cursor of this library over equal tokens.
 use std::fmt::Debug;
 
 use proc_macro2::{self as other, TokenStream};
@@ -15,10 +15,11 @@ const DELIMITERS: [(Delimiter, other::Delimiter); 4] = [
     (Delimiter::None, other::Delimiter::None),
 ];
 
-/// A cursor of ours and one of syn's.
+/// A cursor of this library, and a cursor of `syn` at the same token.
 type Both<'b, 's> = (Cursor<'b>, buffer::Cursor<'s>);
 
-/// Returns both cursors after a token, if both found it, or says what only one found.
+/// Returns both cursors after a token if both calls found this token, or `None` if both calls found
+/// none. Otherwise, returns a text that says what each call found.
 fn after<'b, 's, T: Debug + PartialEq>(
     call: &str,
     ours: Option<(T, Cursor<'b>)>,
@@ -34,7 +35,8 @@ fn after<'b, 's, T: Debug + PartialEq>(
     }
 }
 
-/// Makes each call of both cursors, and goes on by one that finds something, until none does.
+/// Compares the result of each call of both cursors. Continues after a token that the calls found,
+/// until they find none.
 fn compare(random: &mut Random, begun: Both<'_, '_>) -> Result<(), String> {
     let mut open = vec![begun];
     while let Some((ours, theirs)) = open.pop() {
@@ -83,7 +85,8 @@ fn compare(random: &mut Random, begun: Both<'_, '_>) -> Result<(), String> {
     Ok(())
 }
 
-/// Compares the cursors of a buffer and of the stream that is made of it.
+/// Compares the cursor of a buffer with the cursor of the stream that was converted from the
+/// buffer.
 pub fn run(number: usize, text: &str, buffer: &Buffer, stream: TokenStream, tally: &mut Tally) {
     let theirs = TokenBuffer::new2(stream);
     let mut random = Random::new(number as u64);

@@ -1,10 +1,10 @@
-//! The values of floats, beside Rust's own reading of their digits.
+//! Compares the values of floats with the values that Rust's own parser returns for their digits.
 use syn_tokens::{Buffer, Edition, LiteralValue, Token};
 
 use crate::random::{self, Random};
 use crate::tally::Tally;
 
-/// Returns our value of a text that is one literal.
+/// Returns the value that this library assigns to a text that consists of one literal.
 fn value(text: &str) -> Option<f64> {
     let buffer = Buffer::lex_source(Edition::Edition2021, text).ok()?;
     let mut tokens = buffer.tokens();
@@ -17,7 +17,7 @@ fn value(text: &str) -> Option<f64> {
     }
 }
 
-/// Compares the values of so many floats.
+/// Compares the values of `count` random floats.
 pub fn run(random: &mut Random, count: usize, tally: &mut Tally) {
     for _ in 0..count {
         let (digits, suffix) = random::float(random);

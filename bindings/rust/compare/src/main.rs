@@ -1,11 +1,16 @@
-//! Compares ours with proc-macro2 and syn in one process, and values of floats with Rust's own.
+//! Compares this library with `proc-macro2` and `syn` in one process, and compares its values of
+//! floats with those of Rust's own parser.
 //!
 //!     compare [--seed N] [--turn-spacing] TEXTS RUNS
+//!     compare --rows FOLDER..
+//!     compare [--seed N] --metas COUNT
 //!
-//! There is a float for each ten texts.
+//! The program compares one float for each ten texts. `--rows` compares the answers that crates
+//! store for their rows. `--metas` prints random rows, each with the answer of `syn`.
 mod cursors;
 mod floats;
 mod random;
+mod rows;
 mod runs;
 mod spans;
 mod tally;
@@ -21,14 +26,20 @@ use tally::Tally;
 
 fn main() -> ExitCode {
     let mut numbers = Vec::new();
-    let (mut seed, mut turned) = (1, false);
+    let (mut seed, mut turned, mut of_metas) = (1, false, false);
     let mut words = env::args().skip(1);
     while let Some(word) = words.next() {
         match word.as_str() {
             "--seed" => seed = words.next().and_then(|it| it.parse().ok()).unwrap_or(1),
             "--turn-spacing" => turned = true,
+            "--metas" => of_metas = true,
+            "--rows" => return compare_rows(words),
             _ => numbers.extend(word.parse::<usize>()),
         }
+    }
+    if of_metas && numbers.len() == 1 {
+        rows::write_metas(&mut Random::new(seed), numbers[0], &Spans::new(4096));
+        return ExitCode::SUCCESS;
     }
     if numbers.len() != 2 {
         eprintln!("usage: compare [--seed N] [--turn-spacing] TEXTS RUNS");
@@ -47,6 +58,21 @@ fn main() -> ExitCode {
         numbers[1],
         begun.elapsed()
     );
+    if tally.print() {
+        ExitCode::SUCCESS
+    } else {
+        ExitCode::FAILURE
+    }
+}
+
+fn compare_rows(folders: impl Iterator<Item = String>) -> ExitCode {
+    let (spans, mut tally) = (Spans::new(4096), Tally::default());
+    for folder in folders {
+        if let Err(error) = rows::run(&folder, &spans, &mut tally) {
+            eprintln!("{folder}: {error}");
+            return ExitCode::from(2);
+        }
+    }
     if tally.print() {
         ExitCode::SUCCESS
     } else {

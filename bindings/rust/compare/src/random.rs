@@ -1,4 +1,4 @@
-//! Random numbers, texts, and inputs of commands that mostly fit their text.
+//! Random numbers, random texts, and random commands that mostly fit their text.
 use std::fmt::Write;
 
 /// A generator of random numbers (xorshift).
@@ -29,7 +29,8 @@ impl Random {
     }
 }
 
-/// Pieces of texts: tokens, their parts, white space, and characters at the edges of their classes.
+/// The pieces of random texts: tokens, parts of tokens, white space, and characters at the ends of
+/// character classes.
 const PIECES: &[&str] = &[
     "'",
     "\"",
@@ -158,7 +159,7 @@ const PIECES: &[&str] = &[
     "ﬁ",
 ];
 
-/// Returns a text of a few different pieces.
+/// Returns a text that consists of a few different pieces.
 pub fn text(random: &mut Random) -> String {
     let kinds = 2 + random.below(9);
     let some: Vec<&str> = (0..kinds).map(|_| random.pick(PIECES)).collect();
@@ -166,8 +167,8 @@ pub fn text(random: &mut Random) -> String {
     (0..length).map(|_| random.pick(&some)).collect()
 }
 
-/// The keywords that syn 1 has as well, without those that it takes as identifiers: `async`,
-/// `await`, `dyn` and `try`.
+/// The keywords that `syn` 1 has as well, except `async`, `await`, `dyn` and `try`, which `syn` 1
+/// accepts as identifiers.
 pub const KEYWORDS: &[&str] = &[
     "abstract", "as", "auto", "become", "box", "break", "const", "continue", "crate", "default",
     "do", "else", "enum", "extern", "final", "fn", "for", "if", "impl", "in", "let", "loop",
@@ -201,7 +202,7 @@ enum Tree {
     Marked(Vec<Tree>),
 }
 
-/// How often trees are marked, and how often they are groups, in percent.
+/// The shares of invisible groups and of other groups among the trees, in percent.
 struct Shares {
     marks: usize,
     groups: usize,
@@ -247,7 +248,7 @@ fn trees(
     out
 }
 
-/// Returns a token, sometimes in parts of which some are marked.
+/// Returns a token. Sometimes the token is split into parts, some of which are in invisible groups.
 fn leaves(random: &mut Random, words: &[&'static str], shares: &Shares) -> Vec<Tree> {
     let word = random.pick(words);
     let is_punctuation = word.len() > 1 && PUNCTUATIONS.contains(&word);
@@ -274,7 +275,7 @@ fn closing(delimiter: &str) -> char {
     }
 }
 
-/// Writes trees, with white space or a comment between most.
+/// Writes trees as a text, with white space or a comment between most of them.
 fn spell(random: &mut Random, glued: usize, trees: &[Tree], out: &mut String) {
     for tree in trees {
         match tree {
@@ -316,7 +317,7 @@ fn visible(trees: &[Tree], out: &mut Vec<Tree>) {
     }
 }
 
-/// What the walk that chooses commands knows of a stream.
+/// The state of a stream, which decides the commands that mostly fit the stream.
 struct Stream {
     trees: Vec<Tree>,
     at: usize,
@@ -371,7 +372,7 @@ fn look(random: &mut Random, words: &[&'static str]) -> &'static str {
     }
 }
 
-/// Writes commands that mostly fit where a simple walk over the trees stands.
+/// Writes commands, most of which fit the token at the position of their stream.
 fn commands(
     random: &mut Random,
     whole: &[Tree],
@@ -498,7 +499,8 @@ fn commands(
     }
 }
 
-/// Returns a marked text, and commands that syn has as well, a line each.
+/// Returns a marked text, and a list of commands with one command on each line. `syn` has calls for
+/// all of these commands.
 pub fn input(random: &mut Random) -> (String, String) {
     let separator = random.pick(SEPARATORS);
     let words = vocabulary(random, separator);
@@ -530,7 +532,7 @@ pub fn input(random: &mut Random) -> (String, String) {
     (text, lines)
 }
 
-/// Digits with underscores, a digit first.
+/// Returns random digits and underscores, with a digit at the start.
 fn digits(random: &mut Random, most: usize) -> String {
     let mut out = String::new();
     for place in 0..=random.below(most) {
@@ -540,7 +542,8 @@ fn digits(random: &mut Random, most: usize) -> String {
     out
 }
 
-/// A float without its suffix, and the suffix. Exponents reach past the least and the greatest.
+/// Returns a float without its suffix, and the suffix. The exponent may be beyond the range of an
+/// `f64`.
 pub fn float(random: &mut Random) -> (String, &'static str) {
     let mut out = digits(random, 24);
     let has_point = random.chance(70);
@@ -553,4 +556,60 @@ pub fn float(random: &mut Random) -> (String, &'static str) {
         out += &digits(random, 4);
     }
     (out, random.pick(&["", "", "f32", "f64"]))
+}
+
+const NAMES: &[&str] = &["a", "b", "name", "r#fn", "type", "self", "crate", "_", "union"];
+
+/// Expressions, a few of which contain a comma.
+const VALUES: &[&str] = &[
+    "1",
+    "\"x\"",
+    "- 1",
+    "true",
+    "'c'",
+    "7u8",
+    "b",
+    "crate :: b",
+    "f (1, 2)",
+    "b :: < c, d > (e)",
+    "m ! (a, b)",
+    "[1, 2]",
+    "(a, b)",
+    "{ a }",
+    "x + 1",
+    "& a",
+    "a . b",
+    "! x",
+    "a as u8",
+    "if a { b } else { c }",
+];
+
+/// Returns the tokens of a list of metas. Some tokens are missing, replaced or added.
+pub fn metas(random: &mut Random) -> Vec<&'static str> {
+    let mut out = Vec::new();
+    for at in 0..random.below(5) {
+        out.extend((at > 0).then_some(","));
+        out.extend(random.chance(10).then_some("::"));
+        out.push(random.pick(NAMES));
+        while random.chance(25) {
+            out.extend(["::", random.pick(NAMES)]);
+        }
+        match random.below(10) {
+            0..=3 => out.extend(["=", random.pick(VALUES)]),
+            4..=6 => out.push(random.pick(&["()", "(a, b = 1)", "[x]", "{y: z}", "(+ ,)"])),
+            _ => {}
+        }
+    }
+    out.extend((!out.is_empty() && random.chance(25)).then_some(","));
+    for _ in 0..random.below(3) * random.below(2) {
+        let at = random.below(out.len() + 1);
+        match random.below(3) {
+            0 if at < out.len() => {
+                out.remove(at);
+            }
+            1 if at + 1 < out.len() => out.swap(at, at + 1),
+            _ => out.insert(at, random.pick(&[",", "=", "::", "1", "a", "(b)", "+", "\"s\""])),
+        }
+    }
+    out
 }

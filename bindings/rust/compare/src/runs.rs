@@ -1,4 +1,4 @@
-//! The same commands through syn and through ours.
+//! Runs the same commands with `syn` and with this library, and compares the reports.
 use std::cell::Cell;
 use std::collections::BTreeSet;
 
@@ -16,10 +16,10 @@ use crate::random::{self, Random};
 use crate::spans::Spans;
 use crate::tally::Tally;
 
-/// Parses a token.
+/// A function that parses a token.
 type Parse = fn(ParseStream<'_>) -> syn::Result<TokenStream>;
 
-/// syn's calls for a kind of token. Some cannot be peeked.
+/// The calls of `syn` for a kind of token. `syn` can't peek for some kinds.
 struct Calls {
     peeks: [fn(ParseStream<'_>) -> bool; 3],
     look: fn(&Lookahead1<'_>) -> bool,
@@ -85,8 +85,8 @@ fn calls(kind: &str) -> Calls {
     }
 }
 
-/// Our tokens as proc-macro2's, with their spans.
-fn stream(tokens: Cursor<'_>, spans: &Spans) -> TokenStream {
+/// Converts tokens of this library to a stream of `proc-macro2`, with their spans.
+pub fn stream(tokens: Cursor<'_>, spans: &Spans) -> TokenStream {
     tokens
         .map(|token| {
             let span = spans.get(token.span());
@@ -118,7 +118,8 @@ fn stream(tokens: Cursor<'_>, spans: &Spans) -> TokenStream {
         .collect()
 }
 
-/// A stream of syn's, with the number of the stream that it was entered from, or none for a fork.
+/// A stream of `syn`, with the number of the stream from which it was entered, or `None` for a
+/// fork.
 struct Stream<'a> {
     buffer: Option<ParseBuffer<'a>>,
     parent: Option<usize>,
@@ -148,7 +149,7 @@ impl<'a> Session<'a, '_> {
         format!("refused {} {error}", self.spans.show(error.span()))
     }
 
-    /// Ends the streams inside this one, each after those inside it.
+    /// Ends the streams inside this stream. Each stream ends after the streams inside it.
     fn close_inside(&mut self, number: usize) {
         for next in number + 1..=self.others.len() {
             let other = &self.others[next - 1];
@@ -175,8 +176,8 @@ impl<'a> Session<'a, '_> {
         Ok(format!("entered {} {delimiter} {}", self.others.len(), self.spans.show(span)))
     }
 
-    /// Runs a command, and returns its answer. Ours has found that the command names streams that
-    /// fit.
+    /// Runs a command, and returns its answer. This library has already accepted the command for
+    /// its streams.
     fn step(&mut self, command: &str) -> syn::Result<String> {
         let words: Vec<&str> = command.split(' ').filter(|it| !it.is_empty()).collect();
         let number = words[1].parse().unwrap_or(0);
@@ -263,7 +264,8 @@ fn list<P: syn::parse::Parse + token::Token + ToTokens>(
     Ok(parts)
 }
 
-/// Runs commands by syn, those left out that ours rejects, and returns the answers and the verdict.
+/// Runs commands with `syn`, and returns the answers and the verdict. Skips the commands that this
+/// library does not allow on their streams.
 fn theirs(tokens: TokenStream, commands: &str, ours: &[&str], spans: &Spans) -> Vec<String> {
     let mut lines = Vec::new();
     let run = |whole: ParseStream<'_>| -> syn::Result<()> {
@@ -287,18 +289,18 @@ fn theirs(tokens: TokenStream, commands: &str, ours: &[&str], spans: &Spans) -> 
     lines
 }
 
-/// Whether an answer says that a command names a stream that does not fit.
+/// Returns `true` if an answer says that a command is not allowed on its streams.
 fn is_unfit(answer: &str) -> bool {
     ["C1", "C2", "C3", "C4", "C5"].iter().any(|it| answer == format!("refused {it}"))
 }
 
-/// Splits a rejection into its span and its words.
+/// Splits the line of an error into its span and its text.
 fn rejection(line: &str) -> Option<(&str, &str)> {
     line.strip_prefix("refused ")?.split_once(' ')
 }
 
-/// Whether two spans are the same. An empty one, which proc-macro2 cannot make, was given the byte
-/// after it.
+/// Returns `true` if two spans are equal. `proc-macro2` can't create an empty span, so its span may
+/// include the byte after an empty span.
 fn same_span(ours: &str, theirs: &str) -> bool {
     let starts_alike =
         ours.split_once("..").map(|it| it.0) == theirs.split_once("..").map(|it| it.0);
@@ -306,8 +308,8 @@ fn same_span(ours: &str, theirs: &str) -> bool {
     ours == theirs || is_empty && starts_alike
 }
 
-/// Returns the class of a difference between two lines, if they differ. A verdict answers no
-/// command.
+/// Returns the class of the difference between two lines, or `None` if the lines are equal. For a
+/// verdict, `command` is `None`.
 fn difference(
     command: Option<&str>,
     is_marked: bool,
@@ -340,11 +342,15 @@ fn difference(
     }
 }
 
-/// Compares so many runs.
+/// Compares `count` runs of random commands.
 pub fn run(random: &mut Random, count: usize, spans: &Spans, tally: &mut Tally) {
     let mut done = 0;
     while done < count {
         let (text, commands) = random::input(random);
+        // Such a line ends a text of the program: another text is made.
+        if text.lines().any(|line| line == "---") {
+            continue;
+        }
         let buffer = match Buffer::lex_marked(&text) {
             Ok(buffer) => buffer,
             // Pieces that were glued may spell something that is rejected: another text is made.

@@ -1,8 +1,9 @@
-//! Spans of proc-macro2's for ranges of bytes.
+//! Spans of `proc-macro2` for ranges of bytes.
 use proc_macro2::{Span, TokenStream};
 use syn_tokens as ours;
 
-/// Returns the characters of a span. It counts those of all texts that were read so far.
+/// Returns the start and the end of a span, in characters. These numbers count the characters of
+/// all texts that were read so far.
 pub fn range(span: Span) -> (usize, usize) {
     let shown = format!("{span:?}");
     let mut ends = shown.split(|it: char| !it.is_ascii_digit()).filter_map(|it| it.parse().ok());
@@ -16,7 +17,7 @@ pub struct Spans {
 }
 
 impl Spans {
-    /// Makes spans for texts of at most this length.
+    /// Creates spans for texts of at most this length.
     pub fn new(length: usize) -> Self {
         let text = ".".repeat(length);
         let bytes: Vec<Span> = match text.parse::<TokenStream>() {
@@ -27,14 +28,15 @@ impl Spans {
         Spans { bytes, base }
     }
 
-    /// Returns the span of this range. An empty range gets the byte after it.
+    /// Returns the span of this range. For an empty range, returns the span of the byte after the
+    /// range.
     pub fn get(&self, span: ours::Span) -> Span {
         let last = span.end.max(span.start + 1) - 1;
         let joined = self.bytes[span.start].join(self.bytes[last]);
         joined.unwrap_or_else(Span::call_site)
     }
 
-    /// Prints a span as reports do.
+    /// Returns the text of a span, as a report shows it.
     pub fn show(&self, span: Span) -> String {
         match range(span) {
             (start, end) if start >= self.base => {

@@ -1,7 +1,7 @@
-//! How often each class came.
+//! A counter of the classes of differences.
 use std::collections::BTreeMap;
 
-/// Counts classes, and keeps a short example of each.
+/// Counts the comparisons of each class, and keeps a short example of each class.
 #[derive(Default)]
 pub struct Tally {
     classes: BTreeMap<String, (usize, String, String)>,
@@ -23,8 +23,8 @@ impl Tally {
         }
     }
 
-    /// Prints the classes, those that are not listed with an example, and returns whether all are
-    /// listed.
+    /// Prints each class with its count, and adds an example to each unlisted class. Returns `true`
+    /// if all classes are listed.
     pub fn print(&self) -> bool {
         let mut all_listed = true;
         for (class, (count, input, told)) in &self.classes {

@@ -1,4 +1,4 @@
-//! The same texts through proc-macro2 and through ours.
+//! Reads the same texts with `proc-macro2` and with this library, and compares the tokens.
 use std::panic;
 use std::str::FromStr;
 
@@ -13,8 +13,8 @@ const EQUAL: &str = "equal";
 const SHEBANG: &str = "a shebang line";
 const QUOTED: &str = "the lifetime `'b`, `'r` or `'br` before a quote or `#`";
 
-/// A token as both sides know it. Its range counts characters; an opening and a closing have the
-/// empty ranges at the ends of their group.
+/// A token as both libraries describe it. Its range counts characters. An opening or closing
+/// delimiter has an empty range at the start or the end of its group.
 #[derive(Debug, PartialEq, Eq)]
 struct Flat {
     kind: &'static str,
@@ -26,7 +26,7 @@ struct Flat {
 const OPENINGS: [&str; 4] = ["(", "{", "[", "«"];
 const CLOSINGS: [&str; 4] = [")", "}", "]", "»"];
 
-/// Appends our tokens. With `turned`, a punct at this range has the other spacing.
+/// Appends the tokens of this library. If `turned` is true, each punct gets the other spacing.
 fn flatten(text: &str, tokens: Cursor<'_>, turned: bool, out: &mut Vec<Flat>) {
     let characters = |at: usize| text[..at].chars().count();
     let range = |it: ours::Span| (characters(it.start), characters(it.end));
@@ -90,7 +90,7 @@ fn flatten_theirs(stream: TokenStream, base: usize, out: &mut Vec<Flat>) {
     }
 }
 
-/// Returns proc-macro2's tokens, or `None` if it rejects the text or panics.
+/// Returns the tokens of `proc-macro2`, or `None` if `proc-macro2` rejects the text or panics.
 fn theirs(text: &str) -> Option<Vec<Flat>> {
     // A text of one character says where the next text's characters begin.
     let probe = TokenStream::from_str("a").ok()?.into_iter().next()?;
@@ -101,7 +101,8 @@ fn theirs(text: &str) -> Option<Vec<Flat>> {
     Some(out)
 }
 
-/// Returns a doc comment's literal without the escapes that proc-macro2 writes for some characters.
+/// Returns the literal of a doc comment without the escapes that `proc-macro2` writes for some
+/// characters.
 fn plain(literal: &str) -> String {
     let mut out = String::new();
     let mut rest = literal;
@@ -155,12 +156,12 @@ fn has_shebang(text: &str) -> bool {
     text.trim_start_matches('\u{feff}').starts_with("#!")
 }
 
-/// Whether an apostrophe stands before what looks like a byte string or a raw one.
+/// Returns `true` if an apostrophe is directly before the start of a byte string or a raw string.
 fn has_quoted(text: &str) -> bool {
     ["'b\"", "'r\"", "'r#", "'br"].iter().any(|it| text.contains(it))
 }
 
-/// Why we read a text that proc-macro2 rejects.
+/// Returns the reason why this library reads a text that `proc-macro2` rejects.
 fn class_of_read(rules: &str, text: &str) -> &'static str {
     let quotes = text.matches('\'').count();
     if rules != "lex" && has_shebang(text) {
@@ -178,7 +179,7 @@ fn class_of_read(rules: &str, text: &str) -> &'static str {
     }
 }
 
-/// Why we reject a text that proc-macro2 reads.
+/// Returns the reason why this library rejects a text that `proc-macro2` reads.
 fn class_of_rejected(rule: u32, text: &str, at: usize) -> &'static str {
     let here = &text[at..];
     let is_quote = here.trim_start_matches('b').starts_with('\'');
@@ -201,7 +202,8 @@ fn class_of_rejected(rule: u32, text: &str, at: usize) -> &'static str {
     }
 }
 
-/// Whether a line of a string goes on in the next, before white space beyond ASCII.
+/// Returns `true` if a backslash continues a string on the next line, and white space beyond ASCII
+/// comes first on that line.
 fn goes_on(text: &str) -> bool {
     text.split('\\').any(|after| {
         let next = after.strip_prefix('\r').unwrap_or(after);
@@ -210,7 +212,7 @@ fn goes_on(text: &str) -> bool {
     })
 }
 
-/// Whether proc-macro2's stream of a buffer has these tokens, at whatever spans.
+/// Returns `true` if the stream that a buffer converts to has these tokens, regardless of spans.
 fn is_converted(buffer: &Buffer, tokens: &[Flat]) -> bool {
     let mut converted = Vec::new();
     match TokenStream::try_from(buffer) {
@@ -246,7 +248,7 @@ fn compare(rules: &str, text: &str, turned: bool, tally: &mut Tally) {
     tally.count(&format!("{rules}: {class}"), text, &told);
 }
 
-/// Compares so many texts, each by two lists of rules.
+/// Compares `count` random texts, by the rules of `lex` and by the rules of `lex_source`.
 pub fn run(random: &mut Random, count: usize, turned: bool, tally: &mut Tally) {
     for _ in 0..count {
         let text = random::text(random);

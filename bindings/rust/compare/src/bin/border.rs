@@ -1,5 +1,5 @@
-//! Reads a text so many times, by ours or by proc-macro2, for `bench/border` to count: a list of
-//! names, or a file as a whole source.
+//! Reads a text several times with this library or with `proc-macro2`, so that `bench/border` can
+//! count the instructions. The text is a list of names, or a file that is read as a whole source.
 //!
 //!     border ours|theirs NAMES|FILE TIMES
 //!     border entries FILE

@@ -1,4 +1,5 @@
-//! Ways into the library and into syn, each counted by callgrind while the compiler runs a macro.
+//! Ways to call the library and `syn`. Callgrind counts the instructions of each way while the
+//! compiler runs a macro.
 use std::fmt::Write as _;
 
 use proc_macro::{TokenStream, TokenTree};
@@ -15,7 +16,7 @@ fn count(stream: TokenStream) -> usize {
     stream.into_iter().map(weight).sum()
 }
 
-/// Walks all trees and takes each leaf's text, and no more.
+/// Visits all trees, and appends the text of each leaf to `out`.
 fn texts(stream: TokenStream, out: &mut String) {
     for it in stream {
         match it {
@@ -28,7 +29,7 @@ fn texts(stream: TokenStream, out: &mut String) {
     }
 }
 
-/// A request to callgrind, and nothing without it.
+/// Sends a request to callgrind. Does nothing if the process does not run under callgrind.
 fn request(code: usize, argument: usize) {
     let request: [usize; 6] = [code, argument, 0, 0, 0, 0];
     // SAFETY: The rotations add up to a whole turn, and the exchange is of a register with itself.
@@ -66,7 +67,7 @@ fn once(way: &str, tokens: &TokenStream, buffer: &Buffer) -> usize {
     }
 }
 
-/// Runs each way three times, and asks callgrind to write what the last two took.
+/// Runs each way three times, and asks callgrind to write the costs of the last two runs.
 #[proc_macro]
 pub fn measure(tokens: TokenStream) -> TokenStream {
     let buffer = Buffer::from(tokens.clone());

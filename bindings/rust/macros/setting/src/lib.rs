@@ -1,4 +1,4 @@
-//! Macros whose arguments the proved library reads, and the same macros by syn.
+//! Macros whose arguments are parsed by the proved library, and the same macros with `syn`.
 use core::fmt::Write as _;
 
 use proc_macro::TokenStream;
@@ -6,7 +6,7 @@ use quote::{quote, ToTokens};
 use syn_tokens::compiler::{Arguments, Buffer, Error, Value};
 use syn_tokens::Token;
 
-/// Arguments as one line.
+/// Returns the arguments as a text on one line.
 fn line(arguments: Arguments<'_>) -> String {
     let all: Vec<String> = arguments
         .map(|it| match it.value {
@@ -18,8 +18,8 @@ fn line(arguments: Arguments<'_>) -> String {
     all.join(", ")
 }
 
-/// What the macro asks of its arguments beyond their grammar. Each wrong one is an error at the
-/// user's own token.
+/// Checks what the macro requires of its arguments beyond their grammar. Each wrong argument is an
+/// error at the user's own token.
 fn check(buffer: &Buffer, arguments: Arguments<'_>) -> Result<(), Error> {
     let mut errors = arguments.filter_map(|it| match (it.name.text, it.value) {
         ("name", Value::Literal(literal)) if !literal.text.starts_with('"') => {
@@ -46,14 +46,14 @@ fn proved(tokens: TokenStream) -> Result<String, Error> {
     Ok(line(list.iter()))
 }
 
-/// The item, and a constant beside it.
+/// Returns the item, and a constant with the text `said` after it.
 fn item_with(name: &str, said: &str, item: TokenStream) -> TokenStream {
     let name = proc_macro2::Ident::new(name, proc_macro2::Span::call_site());
     let item = proc_macro2::TokenStream::from(item);
     quote!(#item pub const #name: &str = #said;).into()
 }
 
-/// Arguments, read by the library.
+/// Expands to the item, and a constant with the arguments as the library parses them.
 #[proc_macro_attribute]
 pub fn setting(arguments: TokenStream, item: TokenStream) -> TokenStream {
     match proved(arguments) {
@@ -66,7 +66,7 @@ pub fn setting(arguments: TokenStream, item: TokenStream) -> TokenStream {
     }
 }
 
-/// Arguments, read by the library.
+/// Expands to a text with the arguments as the library parses them.
 #[proc_macro]
 pub fn settings(arguments: TokenStream) -> TokenStream {
     match proved(arguments) {
@@ -75,7 +75,7 @@ pub fn settings(arguments: TokenStream) -> TokenStream {
     }
 }
 
-/// Arguments, read by the library. An error becomes a text.
+/// Expands to a text with the arguments as the library parses them, or with the error.
 #[proc_macro]
 pub fn try_settings(arguments: TokenStream) -> TokenStream {
     let said = match proved(arguments) {
@@ -85,7 +85,7 @@ pub fn try_settings(arguments: TokenStream) -> TokenStream {
     quote!(#said).into()
 }
 
-/// The report of commands: `replay!("parse 0 Ident\n..", tokens..)`.
+/// Expands to the report of commands over tokens, as in `replay!("parse 0 Ident\n..", tokens..)`.
 #[proc_macro]
 pub fn replay(tokens: TokenStream) -> TokenStream {
     let mut trees = tokens.into_iter();
@@ -102,7 +102,8 @@ pub fn replay(tokens: TokenStream) -> TokenStream {
     }
 }
 
-/// A literal, in which compilers print a sign with or without a space.
+/// Returns the text of a literal. Compilers print a sign with or without a space, so the space is
+/// removed.
 fn literal(literal: &syn::Lit) -> String {
     literal.to_token_stream().to_string().replace("- ", "-")
 }
@@ -133,14 +134,14 @@ fn by_syn(tokens: TokenStream) -> syn::Result<String> {
     Ok(nested_line(list.iter()))
 }
 
-/// Arguments, read by syn.
+/// Expands to the item, and a constant with the arguments as `syn` parses them.
 #[proc_macro_attribute]
 pub fn setting_syn(arguments: TokenStream, item: TokenStream) -> TokenStream {
     let arguments = syn::parse_macro_input!(arguments as syn::AttributeArgs);
     item_with("SETTING_SYN", &nested_line(arguments.iter()), item)
 }
 
-/// Arguments, read by syn.
+/// Expands to a text with the arguments as `syn` parses them.
 #[proc_macro]
 pub fn settings_syn(arguments: TokenStream) -> TokenStream {
     match by_syn(arguments) {
@@ -149,7 +150,7 @@ pub fn settings_syn(arguments: TokenStream) -> TokenStream {
     }
 }
 
-/// Arguments, read by syn. An error becomes a text.
+/// Expands to a text with the arguments as `syn` parses them, or with the error.
 #[proc_macro]
 pub fn try_settings_syn(arguments: TokenStream) -> TokenStream {
     let said = match by_syn(arguments) {
@@ -182,7 +183,8 @@ fn show(stream: proc_macro2::TokenStream, out: &mut String) {
     }
 }
 
-/// The tokens, with « and » around invisible groups. A joint punct has no space after it.
+/// Expands to the tokens as a text, with `«` and `»` around invisible groups. A joint punct has no
+/// space after it.
 #[proc_macro]
 pub fn marked(tokens: TokenStream) -> TokenStream {
     let mut out = String::new();
@@ -191,7 +193,8 @@ pub fn marked(tokens: TokenStream) -> TokenStream {
     quote!(#out).into()
 }
 
-/// The tokens of an attribute's arguments, as `marked`, in a constant beside the item.
+/// Adds a constant to the item, with the tokens of the attribute's arguments as `marked` prints
+/// them.
 #[proc_macro_attribute]
 pub fn marked_attribute(arguments: TokenStream, item: TokenStream) -> TokenStream {
     let (mut said, mut tokens) = (String::new(), String::new());
@@ -200,7 +203,8 @@ pub fn marked_attribute(arguments: TokenStream, item: TokenStream) -> TokenStrea
     item_with("MARKED", &format!("{}; {}", said.trim_end(), tokens.trim_end()), item)
 }
 
-/// Whether `,` is next, second and third: by syn, and by the library.
+/// Expands to a text that says whether `,` is the next, second or third token, by `syn` and by the
+/// library.
 #[proc_macro]
 pub fn peeks(tokens: TokenStream) -> TokenStream {
     use syn::parse::{ParseStream, Parser};
@@ -222,8 +226,8 @@ pub fn peeks(tokens: TokenStream) -> TokenStream {
     quote!(#said).into()
 }
 
-/// Two streams of one text, direct and through macros: whether their buffers have the same visible
-/// tokens with the same spans.
+/// Expands to the visible tokens of a buffer with their numbers. Equal texts show that two streams
+/// have the same visible tokens with the same spans.
 #[proc_macro]
 pub fn numbers(tokens: TokenStream) -> TokenStream {
     fn visible(tokens: syn_tokens::Cursor<'_>, out: &mut String) {
@@ -252,8 +256,9 @@ pub fn numbers(tokens: TokenStream) -> TokenStream {
     quote!(#out).into()
 }
 
-/// Reads each file that the list `CORPUS` names by the compiler's own lexer, and passes its tokens
-/// to the library: which are rejected as no tokens. Returns a line that says how many.
+/// Reads each file that the list `CORPUS` names with the compiler's own lexer, and passes its
+/// tokens to the library. Expands to a text that names each rejected file and says how many files
+/// and entries were read.
 #[proc_macro]
 pub fn corpus(_: TokenStream) -> TokenStream {
     let list = std::env::var("CORPUS").ok().and_then(|it| std::fs::read_to_string(it).ok());
@@ -272,7 +277,7 @@ pub fn corpus(_: TokenStream) -> TokenStream {
     quote!(#said).into()
 }
 
-/// The tokens of a file, unless this compiler's lexer rejects it.
+/// Returns the tokens of a file, or `None` if this compiler's lexer rejects the file.
 fn stream_of(path: &str) -> Option<TokenStream> {
     let text = std::fs::read_to_string(path).ok()?;
     std::panic::catch_unwind(|| text.parse::<TokenStream>()).ok()?.ok()

@@ -1,8 +1,10 @@
-//! Which fragments of `macro_rules` the compiler wraps in invisible groups: « and » stand for them.
+//! Shows which fragments of `macro_rules` the compiler wraps in invisible groups. The signs `«` and
+//! `»` stand for the delimiters of these groups.
 #![allow(unused)]
 use setting::{marked, marked_attribute};
 
-/// Makes a macro for each kind of fragment, which passes one on. The first token is a dollar sign.
+/// Declares a macro for each kind of fragment, which passes the fragment on. The first token is a
+/// dollar sign.
 macro_rules! passes {
     ($d:tt $($name:ident)*) => {
         $(macro_rules! $name { ($d x:$name) => { marked!(a = $d x, b) }; })*

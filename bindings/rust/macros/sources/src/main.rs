@@ -1,4 +1,5 @@
-//! The tokens of the files that the list `CORPUS` names, read while this is compiled.
+//! Prints how many tokens are in the files that the list `CORPUS` names. The compiler reads the
+//! files.
 fn main() {
     println!("{}", setting::corpus!());
 }
