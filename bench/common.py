@@ -1,5 +1,7 @@
 """What the scripts of bench/ share: they build a program, and count its instructions and its peak
 memory. Each ends with one sentence on standard error, and status 1, if it cannot go on."""
+import concurrent.futures
+import fcntl
 import os
 import re
 import shutil
@@ -9,6 +11,11 @@ import tempfile
 
 TOP = os.path.dirname(os.path.dirname(os.path.abspath(__file__)))
 REGISTRY = "/usr/share/cargo/registry"
+# A name of 20 letters and a literal of 30 bytes: too long for what a text holds in place.
+NAME = "name_of_twenty_bytes"
+STRING = '"one string with thirty bytes"'
+# The statuses of a replay: 1 is a verdict that rejects.
+REPLAYED = (0, 1)
 
 
 def fail(why):
@@ -32,12 +39,29 @@ def must(command, what, **options):
     return done.stdout
 
 
+def counted_tree(top=TOP):
+    """Returns the name of the tree of crates/, which a rebase keeps. What is counted has to be
+    committed."""
+    git = ["git", "-C", top]
+    if must([*git, "status", "--porcelain", "crates", "crates.txt"], "git can't say what changed"):
+        fail("commit the crates first: each figure names their tree")
+    named = must([*git, "rev-parse", "--short", "HEAD:crates"], "git can't name a tree")
+    return named.decode().strip()
+
+
 def built(crate):
     """Returns the program of a crate, which is proved and built unless that is done."""
     proving = [f"{TOP}/tools/program", "--prove", f"bench/{os.path.basename(sys.argv[0])}", crate]
     if run(proving).returncode:
         fail(f"{crate} could not be proved and built")
     return f"{TOP}/crates/{crate}/out/{crate}"
+
+
+def library(crate):
+    """Returns the folder of the static library of a crate, which `rt lib` has to have made of what
+    is there now."""
+    asked = [f"{TOP}/tools/program", "--library", f"bench/{os.path.basename(sys.argv[0])}", crate]
+    return must(asked, f"there is no library of {crate}").decode().strip()
 
 
 def peer(name, room):
@@ -60,21 +84,32 @@ def peer(name, room):
 
 
 def install(packages):
-    """Installs Debian's packages, which needs root."""
-    must(["apt-get", "update"], "the list of packages could not be read")
-    must(
-        ["apt-get", "install", "-y", "--no-install-recommends", *packages],
-        "the packages could not be installed",
-    )
+    """Installs Debian's packages, which needs root. Scripts that run side by side do it in turn."""
+    with open(__file__, encoding="utf-8") as lock:
+        fcntl.flock(lock, fcntl.LOCK_EX)
+        must(["apt-get", "update"], "the list of packages could not be read")
+        must(
+            ["apt-get", "install", "-y", "--no-install-recommends", *packages],
+            "the packages could not be installed",
+        )
 
 
-def instructions(command, given=b"", path=None, statuses=(0, 1)):
+def side_by_side(count, items):
+    """Yields what `count` returns for each item, in order. As many run at once as there are
+    processors; the first that fails is the last."""
+    with concurrent.futures.ThreadPoolExecutor(os.cpu_count()) as pool:
+        try:
+            yield from pool.map(count, items)
+        finally:
+            pool.shutdown(cancel_futures=True)
+
+
+def instructions(command, given=b"", path=None, statuses=(0,), folder=None):
     """Returns how many instructions a program takes, by valgrind's callgrind. Its input is `given`,
-    or the file at `path`. It has to end with one of the statuses; 1 is that of a text or a verdict
-    that rejects."""
+    or the file at `path`. It runs in `folder`, and has to end with one of the statuses."""
     with tempfile.NamedTemporaryFile() as out:
         counted = ["valgrind", "--tool=callgrind", f"--callgrind-out-file={out.name}", *command]
-        options = {"stdout": subprocess.DEVNULL, "stderr": subprocess.PIPE}
+        options = {"stdout": subprocess.DEVNULL, "stderr": subprocess.PIPE, "cwd": folder}
         if path is None:
             done = run(counted, input=given, **options)
         else:
@@ -87,21 +122,22 @@ def instructions(command, given=b"", path=None, statuses=(0, 1)):
     return int(found.group(1))
 
 
-def peak_kib(command, given=b"", path=None):
-    """Returns the peak memory of a program in KiB. Its input is `given`, or the file at `path`."""
+def peak_kib(command, given=b"", path=None, statuses=(0,)):
+    """Returns the peak memory of a program in KiB. Its input is `given`, or the file at `path`. It
+    has to end with one of the statuses.
+
+    GNU time starts the program: the peak of a process counts what the one that started it held, and
+    GNU time holds less than any program here."""
     if path is None:
         with tempfile.NamedTemporaryFile() as file:
             file.write(given)
             file.flush()
-            return peak_kib(command, path=file.name)
-    child = (
-        "import resource, subprocess, sys\n"
-        "subprocess.run(sys.argv[2:], stdin=open(sys.argv[1]), stdout=subprocess.DEVNULL)\n"
-        "print(resource.getrusage(resource.RUSAGE_CHILDREN).ru_maxrss)"
-    )
-    return int(
-        must(
-            [sys.executable, "-c", child, path, *command],
-            f"the memory of {command[0]} could not be measured",
-        )
-    )
+            return peak_kib(command, path=file.name, statuses=statuses)
+    with tempfile.NamedTemporaryFile() as out, open(path, "rb") as stdin:
+        measured = ["/usr/bin/time", "--format=%M", f"--output={out.name}", *command]
+        done = run(measured, stdin=stdin, stdout=subprocess.DEVNULL, stderr=subprocess.PIPE)
+        found = re.search(rb"^(\d+)$", out.read(), re.M)
+    if done.returncode not in statuses or not found:
+        sys.stderr.buffer.write(done.stderr)
+        fail(f"{command[0]} ended with status {done.returncode} while its memory was measured")
+    return int(found.group(1))

@@ -12,8 +12,8 @@ fn main() -> Result<(), Box<dyn std::error::Error>> {
     let (goal, text) = input.split_once('\n').ok_or("no line that says how far to read")?;
     let tokens: TokenStream = text.parse()?;
     let count = match goal {
-        "trees" => usize::from(!tokens.is_empty()),
-        "buffer" => usize::from(!TokenBuffer::new2(tokens).begin().eof()),
+        "trees" | "source trees" => usize::from(!tokens.is_empty()),
+        "buffer" | "source buffer" => usize::from(!TokenBuffer::new2(tokens).begin().eof()),
         "list" => Punctuated::<Ident, Token![,]>::parse_terminated.parse2(tokens)?.len(),
         _ => return Err("neither trees nor buffer nor list".into()),
     };

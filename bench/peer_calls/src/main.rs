@@ -32,6 +32,7 @@ fn parse(input: ParseStream, call: &str, count: usize) -> Result<usize> {
         "semi" => each(count, || input.parse::<Token![;]>().map(|_| 0)),
         "eq" => each(count, || input.parse::<Token![=]>().map(|_| 0)),
         "path_sep" => each(count, || input.parse::<Token![::]>().map(|_| 0)),
+        "shr_eq" => each(count, || input.parse::<Token![>>=]>().map(|_| 0)),
         "punct" => each(count, || input.parse::<Punct>().map(|_| 0)),
         "literal" => each(count, || input.parse::<Literal>().map(|_| 0)),
         "lifetime" => each(count, || input.parse::<Lifetime>().map(|_| 0)),
@@ -78,7 +79,7 @@ fn parse(input: ParseStream, call: &str, count: usize) -> Result<usize> {
             let lookahead = input.lookahead1();
             let is_there = lookahead.peek(Token![fn])
                 || lookahead.peek(Token![,])
-                || lookahead.peek(syn::Lit);
+                || lookahead.peek(literal);
             if !is_there {
                 let _: syn::Error = lookahead.error();
             }
@@ -87,6 +88,11 @@ fn parse(input: ParseStream, call: &str, count: usize) -> Result<usize> {
         }),
         _ => Err(input.error("no such call")),
     }
+}
+
+// Stands for the type in a peek, as `syn::Ident` does: syn has no such function for it.
+fn literal<Marker>(_: Marker) -> Literal {
+    unreachable!("a peek calls no such function")
 }
 
 fn each(count: usize, mut call: impl FnMut() -> Result<usize>) -> Result<usize> {

@@ -27,6 +27,7 @@ pub fn count(alloc: Global, input: &str) -> Result<usize> {
         "semi" => (|s: ParseStream<'_, '_>| semi(s, count)).parse2(alloc, tokens),
         "eq" => (|s: ParseStream<'_, '_>| eq(s, count)).parse2(alloc, tokens),
         "path_sep" => (|s: ParseStream<'_, '_>| path_sep(s, count)).parse2(alloc, tokens),
+        "shr_eq" => (|s: ParseStream<'_, '_>| shr_eq(s, count)).parse2(alloc, tokens),
         "punct" => (|s: ParseStream<'_, '_>| punct(s, count)).parse2(alloc, tokens),
         "literal" => (|s: ParseStream<'_, '_>| literal(s, count)).parse2(alloc, tokens),
         "lifetime" => (|s: ParseStream<'_, '_>| lifetime(s, count)).parse2(alloc, tokens),
@@ -96,6 +97,13 @@ fn eq(input: ParseStream<'_, '_>, count: usize) -> syn_parse::Result<usize> {
 fn path_sep(input: ParseStream<'_, '_>, count: usize) -> syn_parse::Result<usize> {
     for _i in 0..count {
         let _: token::PathSep = input.parse()?;
+    }
+    Ok(count)
+}
+
+fn shr_eq(input: ParseStream<'_, '_>, count: usize) -> syn_parse::Result<usize> {
+    for _i in 0..count {
+        let _: token::ShrEq = input.parse()?;
     }
     Ok(count)
 }

@@ -1,9 +1,10 @@
 //! Makes calls of the library on standard input, for the scripts in `bench/`, which count what they
-//! take. The word after the program's name says which: `calls`, `depths` or `reading`.
+//! take. The word after the program's name says which: `calls`, `depths`, `errors` or `reading`.
 #![tactic(auto)]
 
 mod calls;
 mod depths;
+mod errors;
 mod reading;
 
 use anyhow::{Context, Result, bail};
@@ -18,8 +19,9 @@ fn main(rt: HostRuntime) -> Result<()> {
     let count = match goal.as_str() {
         "calls" => calls::count(alloc, input.as_str())?,
         "depths" => depths::count(alloc, input.as_str())?,
+        "errors" => errors::count(alloc, input.as_str())?,
         "reading" => reading::count(alloc, input.as_str())?,
-        _ => bail!("neither calls, depths nor reading"),
+        _ => bail!("neither calls, depths, errors nor reading"),
     };
     println!(rt; "{count}")?;
     Ok(())
