@@ -1,6 +1,5 @@
 -- Pieces, streams and lines compared one by one.
-use Rattle.std.proofs.Common.{suc, Bool, ◌≡◌, ap, ap₂, refl, ◌∙◌, sym, List, [], ◌∷◌}
-use Rattle.std.proofs.Common.{length}
+use Rattle.std.proofs.Common.{suc, Bool, ◌≡◌, ap, ap₂, refl, ◌∙◌, sym, List, [], ◌∷◌, length}
 use Rattle.std.specs.Prelude.{◌↔◌, true}
 use Rattle.tok_core.specs.declared.stream.TokenTree.{TokenTree}
 use Rattle.tok_core.specs.Forest.{Tree, Forest, tree}

@@ -1,7 +1,6 @@
 -- Two lists compared item by item.
 use Rattle.std.proofs.Common.{◌≡◌, ℕ, ◌+◌, ◌<◌, false, List, [], ◌∷◌, length, drop}
-use Rattle.std.proofs.Common.{get_or}
-use Rattle.std.proofs.Common.{sym, ap, ◌∙◌, subst, arith}
+use Rattle.std.proofs.Common.{get_or, sym, ap, ◌∙◌, arith}
 use Rattle.std.proofs.lemmas.Bool.{false≢true}
 use Rattle.std.proofs.lemmas.List.{drop_more}
 use Rattle.std.specs.Prelude.{◌↔◌, true}
@@ -31,11 +30,8 @@ module _ {A : Type 0} (P : List A → List A → Type 0) (R : A → A → Type 0
       (a : x ≡ get_or xs i x) (b : y ≡ get_or ys i y) where
     one_more : P (drop i xs) (drop i ys) ↔ (R x y × P (drop (i + 1) xs) (drop (i + 1) ys))
     one_more =
-        let goal = R x y × P (drop (i + 1) xs) (drop (i + 1) ys) in
-        subst (λ zs. P zs (drop i ys) ↔ goal) (sym (first i xs x h a))
-        (subst (λ zs. P (x ∷ drop (i + 1) xs) zs ↔ goal)
-        (sym (first i ys y (omega (arith, h, s.lengths)) b))
-        (c.more x y (drop (i + 1) xs) (drop (i + 1) ys)))
+        rw (first i xs x h a, first i ys y (omega (arith, h, s.lengths)) b)
+        (c.more x y (drop (i + 1) xs) (drop (i + 1) ys))
 
     pub goes_on : R x y → Undecided P (i + 1) xs ys
     goes_on r = record {

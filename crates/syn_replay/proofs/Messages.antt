@@ -1,18 +1,11 @@
--- An error shows its message, and a stream's depends on its place and scope alone.
+-- The message of an error depends on the place and the scope of its stream alone.
 use Rattle.std.proofs.Common.{◌≡◌, refl, ℕ, List, [], ◌∷◌}
-use Rattle.tok_buffer.specs.Messages.{one_message}
-use Rattle.tok_buffer.specs.declared.error.Message.{Message}
 use Rattle.tok_types.specs.Texts.{punctuation_text}
 use Rattle.syn_parse.specs.ErrorWords.{punctuation_message}
 use Rattle.syn_parse.specs.State.{State, fresh}
 use Rattle.syn_replay.specs.Kinds.{Kind, ident, ident_any, lifetime, lifetime_any, literal, punct}
 use Rattle.syn_replay.specs.Kinds.{underscore, keyword, punctuation, kind_missing}
-use Rattle.tok_buffer.specs.Messages.{first_message}
 
-pub first_message-one : (r : Message) → first_message (one_message r) ≡ r
-first_message-one r = refl
-
--- an error is said of the place and the scope's span alone
 pub separator_there : (text : List ℕ) (s : State)
     → punctuation_message text s ≡ punctuation_message text (fresh s.place s.scope_span)
 separator_there [] s = refl

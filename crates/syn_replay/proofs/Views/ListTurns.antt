@@ -1,13 +1,13 @@
 -- List parsers at places with equal views.
-use Rattle.std.proofs.Common.{◌≡◌, ◌∙◌, ap, subst, refl, ℕ, zero, suc, ◌+◌, ◌<◌, ◌&&◌}
-use Rattle.std.proofs.Common.{nat_lt, Bool, true, false, cond, List, [], ◌∷◌, Option, Some, None}
-use Rattle.std.proofs.Common.{arith}
-use Rattle.std.proofs.lemmas.Bool.Decides.{nat_tests}
+use Rattle.std.proofs.Common.{◌≡◌, ◌∙◌, ap, refl, ℕ, zero, suc, ◌+◌, ◌&&◌}
+use Rattle.std.proofs.Common.{nat_lt, true, List, [], ◌∷◌, ◌++◌, Option, Some, None}
+use Rattle.std.proofs.lemmas.Bool.{lt-ltb}
 use Rattle.tok_leaves.specs.declared.span.Span.{Span}
 use Rattle.tok_core.specs.Forest.{Tree}
 use Rattle.tok_buffer.specs.Buffer.{Laid}
 use Rattle.tok_buffer.specs.Place.{Place, empty_place, at}
 use Rattle.tok_buffer.specs.Reads.{read_punctuation}
+use Rattle.tok_buffer.specs.declared.error.Message.{Message}
 use Rattle.tok_buffer.proofs.Onwards.{GoesOn, keeps_scope, later_count, lies_nowhere, reading_goes}
 use Rattle.tok_buffer.proofs.Onwards.{then_goes}
 use Rattle.tok_buffer.proofs.View.Alike.{Alike, ReadsAlike, alike-end, alike-reading}
@@ -19,7 +19,7 @@ use Rattle.syn_parse.specs.State.{fresh}
 use Rattle.syn_replay.proofs.Views.KindReads.{of_kind}
 use Rattle.syn_replay.proofs.Views.KindsAlike.{alike-kind, alike-kind_missing}
 use Rattle.syn_replay.specs.Reports.{Piece}
-use Rattle.syn_replay.specs.Turns.{ListOutcome, read_all, refused_at, with_parts, is_later, no_progress_at}
+use Rattle.syn_replay.specs.Turns.{ListOutcome, read_all, refused_at, with_parts, is_later}
 use Rattle.syn_replay.specs.Turns.{after_read, after_value, next_turn, pieces_of, without_separator}
 use Rattle.syn_replay.specs.Turns.{ListRule, terminated, separated, is_over, turns, turns_left}
 use Rattle.syn_replay.proofs.Views.Choices.{either}
@@ -32,41 +32,30 @@ later-separator : (s : List ℕ) (p v : Place) → GoesOn p v
     → LeadsTo (GoesOn p) (read_punctuation s v)
 later-separator s p v h = then_goes (of_punctuation s) p v h
 
-later_test : (c d : ℕ) → c < d → nat_lt c d ≡ true
-later_test c d h = grind (arith, nat_tests)
-
 is_later_there : (p q : Place) → GoesOn p q → is_later p q ≡ true
 is_later_there empty_place q h = absurd (lies_nowhere q h)
 is_later_there (at n s c l ls) empty_place h = refl
 is_later_there (at n s c l ls) (at m t d k ks) h =
     ap (λ b. b && nat_lt c d) (keeps_scope (at n s c l ls) (at m t d k ks) h)
-    ∙ later_test c d (later_count n s c m t d l k ls ks h)
+    ∙ lt-ltb c d (later_count n s c m t d l k ls ks h)
 
 module _ (f g : Laid) where
-  abbrev pub OutcomesAlike : ListOutcome → ListOutcome → Type 0
-  OutcomesAlike (read_all a p) (read_all b q) = (a ≡ b) × Alike f g p q
-  OutcomesAlike (refused_at r p) (refused_at s q) = (r.text ≡ s.text) × Alike f g p q
-  OutcomesAlike x y = ⊥
+  pub data OutcomesAlike : ListOutcome → ListOutcome → Type 0 where
+    both_read : {a b : List (List Piece)} {p q : Place} → a ≡ b → Alike f g p q
+        → OutcomesAlike (read_all a p) (read_all b q)
+    both_refused : {r s : Message} {p q : Place} → r.text ≡ s.text → Alike f g p q
+        → OutcomesAlike (refused_at r p) (refused_at s q)
 
-  with-parts : (a b : List (List Piece)) (x y : ListOutcome) → a ≡ b → OutcomesAlike x y
-      → OutcomesAlike (with_parts a x) (with_parts b y)
-  with-parts a b (read_all m p) (read_all n q) e h = (cc h.0, h.1)
-  with-parts a b (read_all m p) (refused_at r q) e h = absurd h
-  with-parts a b (refused_at r p) (read_all n q) e h = absurd h
-  with-parts a b (refused_at r p) (refused_at s q) e h = h
+  with-parts : (a : List (List Piece)) (x y : ListOutcome) → OutcomesAlike x y
+      → OutcomesAlike (with_parts a x) (with_parts a y)
+  with-parts a x y (both_read e h) = both_read (ap (λ z. a ++ z) e) h
+  with-parts a x y (both_refused e h) = both_refused e h
 
   module _ (kind : Kind) (separator : List ℕ) (left right : Span) where
     next-turn : (p q v w : Place) (a b : Place → ListOutcome) → GoesOn p v → GoesOn q w
         → OutcomesAlike (a v) (b w)
         → OutcomesAlike (next_turn kind separator left p v a) (next_turn kind separator right q w b)
-    next-turn p q v w a b h k i =
-        go (is_later p v) (is_later q w) (is_later_there p v h) (is_later_there q w k) where
-          go : (x y : Bool) → x ≡ true → y ≡ true
-              → OutcomesAlike (cond x (a v) (refused_at (no_progress_at v left) v))
-              (cond y (b w) (refused_at (no_progress_at w right) w))
-          go true true e j = i
-          go true false e j = absurd (cc)
-          go false y e j = absurd (cc)
+    next-turn p q v w a b h k i = rw (is_later_there p v h, is_later_there q w k) i
 
     after-read : (p q : Place) (u v : ListOutcome) (a b : List Piece → Place → ListOutcome)
         (r s : Option (List Tree × Place))
@@ -82,8 +71,7 @@ module _ (f g : Laid) where
     after-read p q u v a b None (Some s) e m h i j = absurd h
     after-read p q u v a b (Some r) None e m h i j = absurd h
     after-read p q u v a b (Some r) (Some s) e m h i j =
-        subst (λ x. OutcomesAlike (a (pieces_of r.0) r.1) (b x s.1)) (ap pieces_of h.0)
-        (m (pieces_of r.0) r.1 s.1 h.1 i j)
+        rw (← (ap pieces_of h.0)) (m (pieces_of r.0) r.1 s.1 h.1 i j)
 
     after-value : (p q : Place) (x : List Piece) (u v : ListOutcome) (a b : Place → ListOutcome)
         (i j : Place)
@@ -96,7 +84,7 @@ module _ (f g : Laid) where
         (after_value kind separator right q x v b j)
     after-value p q x u v a b i j e again h k m =
         after-read p q u v _ _ (read_punctuation separator i) (read_punctuation separator j) e
-        (λ s y z l n o. with-parts (x ∷ (s ∷ [])) (x ∷ (s ∷ [])) _ _ refl
+        (λ s y z l n o. with-parts (x ∷ (s ∷ [])) _ _
         (next-turn p q y z a b n o (again y z l)))
         (alike-reading f g i j h (of_punctuation separator)) (later-separator separator p i k)
         (later-separator separator q j m)
@@ -108,22 +96,22 @@ module _ (f g : Laid) where
     alike-without : (rule : ListRule) (x : List Piece) (p q : Place) → Alike f g p q
         → OutcomesAlike (without_separator kind separator left rule x p)
         (without_separator kind separator right rule x q)
-    alike-without terminated x p q h = (refl, h)
-    alike-without separated x p q h = (refl, h)
+    alike-without terminated x p q h = both_refused refl h
+    alike-without separated x p q h = both_read refl h
 
     pub alike-turns : (rule : ListRule) (n : ℕ) (p q : Place) → Alike f g p q
         → OutcomesAlike (turns kind separator left rule n p) (turns kind separator right rule n q)
-    alike-turns rule zero p q h = (refl, h)
+    alike-turns rule zero p q h = both_refused refl h
     alike-turns rule (suc n) p q h =
         either OutcomesAlike (is_over rule p) (is_over rule q) (read_all [] p) (read_all [] q) _ _
-        (alike-over rule p q h) (refl, h)
+        (alike-over rule p q h) (both_read refl h)
         (after-read p q (refused_at (kind_missing kind (fresh p left)) p)
         (refused_at (kind_missing kind (fresh q right)) q) _ _ (read kind p) (read kind q)
-        (alike-kind_missing f g kind (fresh p left) (fresh q right) h, h)
+        (both_refused (alike-kind_missing f g kind (fresh p left) (fresh q right) h) h)
         (λ x i j k l m.
         either OutcomesAlike (is_over rule i) (is_over rule j) (read_all (x ∷ []) i)
         (read_all (x ∷ []) j) _ _
-        (alike-over rule i j k) (refl, k)
+        (alike-over rule i j k) (both_read refl k)
         (after-value p q x (without_separator kind separator left rule x i)
         (without_separator kind separator right rule x j) (turns kind separator left rule n)
         (turns kind separator right rule n) i j (alike-without rule x i j k)

@@ -1,6 +1,6 @@
 -- A transparent command keeps two walks alike, and its answers agree.
-use Rattle.std.proofs.Common.{◌≡◌, ◌∙◌, ap, ap₂, subst, refl, ℕ, ◌+◌, ◌==◌, ◌&&◌, ◌||◌, not, Bool}
-use Rattle.std.proofs.Common.{true, cond, List, [], ◌∷◌, ◌++◌, length, Option, Some, None}
+use Rattle.std.proofs.Common.{◌≡◌, ◌∙◌, ap, ap₂, refl, ℕ, ◌+◌, ◌==◌, ◌&&◌, ◌||◌, not, Bool, true}
+use Rattle.std.proofs.Common.{cond, List, [], ◌∷◌, ◌++◌, length, Option, Some, None}
 use Rattle.std.proofs.lemmas.Bool.{and_parts}
 use Rattle.tok_lexical.specs.declared.delimiter.Delimiter.{Delimiter}
 use Rattle.tok_lexical.specs.declared.delimiter.Delimiter.TheVariants.{Parenthesis, Brace, Bracket}
@@ -16,8 +16,8 @@ use Rattle.tok_buffer.specs.Place.{Place, empty_place}
 use Rattle.tok_buffer.proofs.View.Alike.{Alike, ReadsAlike, EntriesAlike, alike-end, alike-scope}
 use Rattle.tok_buffer.proofs.View.Alike.{alike-enter}
 use Rattle.tok_buffer.specs.View.{IsVisibleDelimiter}
-use Rattle.syn_replay.specs.Kinds.{Kind, Look, read, peek, peek_kind, display}
-use Rattle.syn_replay.specs.Kinds.{ignores_invisible, kind_missing}
+use Rattle.syn_replay.specs.Kinds.{Kind, Look, read, peek, peek_kind, display, ignores_invisible}
+use Rattle.syn_replay.specs.Kinds.{kind_missing}
 use Rattle.syn_parse.specs.ErrorWords.{delimiter_words}
 use Rattle.syn_parse.specs.State.{fresh}
 use Rattle.syn_parse.proofs.SameWords.{alike-at_stream, alike-look}
@@ -26,31 +26,27 @@ use Rattle.syn_replay.proofs.Views.KindsAlike.{alike-peek_kind, alike-kind_missi
 use Rattle.syn_replay.specs.Agree.{AnswersAgree}
 use Rattle.syn_replay.specs.Transparent.{is_transparent, is_transparent_action}
 use Rattle.syn_replay.specs.Commands as commands
-use Rattle.syn_replay.specs.Commands.{Command, Action, StreamRead, enter, fork, advance, discard, close}
-use Rattle.syn_replay.specs.Commands.{answered_by, parsed, listed_to, looked, read_answer}
-use Rattle.syn_replay.specs.Commands.{all_ignore_invisible}
-use Rattle.syn_replay.specs.Commands.{is_transparent_read}
+use Rattle.syn_replay.specs.Commands.{Command, Action, StreamRead, enter, fork, advance, discard}
+use Rattle.syn_replay.specs.Commands.{close, answered_by, parsed, listed_to, looked, read_answer}
+use Rattle.syn_replay.specs.Commands.{all_ignore_invisible, is_transparent_read}
 use Rattle.syn_replay.specs.Reports as reports
-use Rattle.syn_replay.specs.Reports.{Answer, truth, absent, entered, forked}
-use Rattle.syn_replay.specs.Reports.{found, misused}
+use Rattle.syn_replay.specs.Reports.{Answer, truth, absent, entered, forked, found, misused}
 use Rattle.syn_replay.specs.declared.report.Misuse.{Misuse}
-use Rattle.syn_replay.specs.declared.report.Misuse.TheVariants.{NoStream, Spent, NoFork, NoContent}
-use Rattle.syn_replay.specs.declared.report.Misuse.TheVariants.{OutOfScope}
-use Rattle.syn_replay.specs.Session.State.{Stream, content_of, a_fork, AllStreams}
+use Rattle.syn_replay.specs.declared.report.Misuse.TheVariants.{NoFork, NoContent, OutOfScope}
+use Rattle.syn_replay.specs.Session.State.{Stream, content_of, a_fork, AllStreams, with_stream}
+use Rattle.syn_replay.specs.Session.State.{moved_to, is_inside, stream_at}
 use Rattle.std.specs.Prelude.{nat_le}
-use Rattle.syn_replay.specs.Session.State.{with_stream, moved_to, is_inside, stream_at}
-use Rattle.syn_replay.specs.Session.Step.{Stepped, unmoved, new_stream, into_group}
-use Rattle.syn_replay.specs.Session.Step.{on_stream, named_by, is_unknown, has_ended, step}
-use Rattle.syn_replay.specs.Session.Step.{any_of, is_fork, is_content, kind_misuse}
-use Rattle.syn_replay.specs.Session.Step.{misuse}
-use Rattle.syn_replay.specs.Turns.{ListOutcome, read_all, refused_at, pieces_of, turns, turns_left}
-use Rattle.syn_replay.proofs.Views.ListTurns.{OutcomesAlike, alike-turns, alike-turns_left}
-use Rattle.syn_replay.proofs.Views.Streams.{StreamsAlike, StatesAlike, alike-at}
+use Rattle.syn_replay.specs.Session.Step.{Stepped, unmoved, new_stream, into_group, on_stream}
+use Rattle.syn_replay.specs.Session.Step.{named_by, is_unknown, has_ended, step, any_of, is_fork}
+use Rattle.syn_replay.specs.Session.Step.{is_content, kind_misuse, misuse}
+use Rattle.syn_replay.specs.Turns.{ListOutcome, pieces_of, turns, turns_left}
+use Rattle.syn_replay.proofs.Views.ListTurns.{OutcomesAlike, both_read, both_refused, alike-turns}
+use Rattle.syn_replay.proofs.Views.ListTurns.{alike-turns_left}
+use Rattle.syn_replay.proofs.Views.Streams.{StreamsAlike, StatesAlike, alike-at, alike-kinds}
 use Rattle.syn_replay.proofs.Views.Streams.{alike-length, alike-append, alike-with_stream}
-use Rattle.syn_replay.proofs.Views.Streams.{alike-moved}
-use Rattle.syn_replay.proofs.Views.Streams.{alike-closed, alike-advanced, alike-ended}
-use Rattle.syn_replay.proofs.Views.Streams.{same-inside}
+use Rattle.syn_replay.proofs.Views.Streams.{alike-moved, alike-closed, alike-advanced, alike-ended}
 use Rattle.syn_replay.proofs.Views.Choices.{either}
+use Rattle.syn_replay.proofs.Walk.Inner.{same_inside}
 
 module _ (f g : Laid) where
   pub record StepsAlike (a b : Stepped) : Type 0 where
@@ -77,10 +73,8 @@ module _ (f g : Laid) where
 
     alike-listed : (a b : ListOutcome) → OutcomesAlike f g a b
         → AnsweredAlike (listed_to a) (listed_to b)
-    alike-listed (read_all x u) (read_all y v) j = (ap reports.list j.0, j.1)
-    alike-listed (read_all x u) (refused_at r v) j = absurd j
-    alike-listed (refused_at r u) (read_all y v) j = absurd j
-    alike-listed (refused_at r u) (refused_at c v) j = (j.0, j.1)
+    alike-listed a b (both_read e j) = (ap reports.list e, j)
+    alike-listed a b (both_refused e j) = (e, j)
 
     alike-looked : (n : ℕ) (ls : List Look) (missed : List (List ℕ))
         → all_ignore_invisible ls ≡ true
@@ -108,9 +102,7 @@ module _ (f g : Laid) where
     alike-answer (commands.list rule kind separator) e =
         alike-listed (turns kind separator left rule (turns_left p) p)
         (turns kind separator right rule (turns_left q) q)
-        (subst
-        (λ n. OutcomesAlike f g (turns kind separator left rule (turns_left p) p)
-        (turns kind separator right rule n q)) (alike-turns_left f g p q i)
+        (rw (← (alike-turns_left f g p q i))
         (alike-turns f g kind separator left right rule (turns_left p) p q i))
     alike-answer r e = absurd (cc)
 
@@ -193,7 +185,7 @@ module _ (f g : Laid) where
         (unmoved st (misused OutOfScope))
         (unmoved su (misused OutOfScope))
         (ap₂ (λ x y. x && not (k == m || y))
-        (same-fork m) (same-inside f g st su m k h))
+        (same-fork m) (same_inside st su m k (alike-kinds f g st su h)))
         (record { answer = refl; state = alike-advanced f g k m st su h })
         (record { answer = refl; state = h })
     alike-on_stream discard e =
@@ -224,22 +216,15 @@ module _ (f g : Laid) where
         let over =
         same-any_of (has_ended st) (has_ended su)
         (λ k. ap (λ z. not z.is_open) (alike-at f g st su k h).same) (named_by c) in
-        ap
-        (λ b. cond b (Some NoStream)
-        (cond (any_of (has_ended st) (named_by c)) (Some Spent) (kind_misuse c.action st c.stream)))
-        missing
-        ∙ ap₂
-        (λ b r. cond (any_of (is_unknown su) (named_by c)) (Some NoStream) (cond b (Some Spent) r))
-        over
-        (same-kind_misuse c.action c.stream)
+        let kinds = same-kind_misuse c.action c.stream in
+        cc
 
     either-misuse : (a b : Option Misuse) (x y : Stepped) → a ≡ b → StepsAlike x y
         → StepsAlike (elim a [ Some n ↦ unmoved st (misused n) | None ↦ x ])
         (elim b [ Some n ↦ unmoved su (misused n) | None ↦ y ])
     either-misuse None None x y e i = i
     either-misuse None (Some n) x y e i = absurd (cc)
-    either-misuse (Some m) None x y e i = absurd (cc)
-    either-misuse (Some m) (Some n) x y e i = record { answer = cc; state = h }
+    either-misuse (Some m) b x y e i = rw (← e) (record { answer = refl; state = h })
 
     pub alike-step : (c : Command) → is_transparent c ≡ true → StepsAlike (step c st) (step c su)
     alike-step c e =

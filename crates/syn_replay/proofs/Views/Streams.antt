@@ -1,7 +1,7 @@
 -- Streams of two walks that are alike: at places with equal views, with equal spans of what is
 -- recorded.
-use Rattle.std.proofs.Common.{◌≡◌, ◌∙◌, ap, ap₂, subst, refl, ℕ, zero, suc, ◌+◌, ◌==◌, ◌&&◌}
-use Rattle.std.proofs.Common.{◌||◌, Bool, true, false, [], ◌∷◌, ◌++◌, length, Option, Some, None}
+use Rattle.std.proofs.Common.{◌≡◌, ap, ap₂, refl, ℕ, zero, suc, ◌+◌, ◌==◌, ◌&&◌, ◌||◌, Bool, true}
+use Rattle.std.proofs.Common.{false, [], ◌∷◌, ◌++◌, length, Option, Some, None}
 use Rattle.std.specs.Prelude.{cond, option_map}
 use Rattle.std.specs.Option.{option_or}
 use Rattle.tok_leaves.specs.declared.span.Span.{Span}
@@ -9,12 +9,12 @@ use Rattle.tok_buffer.specs.Buffer.{Laid}
 use Rattle.tok_buffer.specs.Ahead.{Leftover, leftover}
 use Rattle.tok_buffer.specs.Place.{Place, empty_place}
 use Rattle.tok_buffer.proofs.View.Alike.{Alike, alike-leftover}
-use Rattle.syn_replay.specs.Session.State.{Stream, StreamKind, outermost, content_of, a_fork, AllStreams}
-use Rattle.syn_replay.specs.Session.State.{with_stream, moved_to, spent, spent_if, recording}
-use Rattle.syn_replay.specs.Session.State.{recording_on_parent, is_content_of, kind_at, stream_at}
-use Rattle.syn_replay.specs.Session.State.{is_entered_from, is_entered_within, is_inside, ended_from, stream_ended}
-use Rattle.syn_replay.specs.Session.State.{left_from, reported, gathered, content_closed}
-use Rattle.syn_replay.specs.Session.State.{moved_to_fork}
+use Rattle.syn_replay.specs.Session.State.{Stream, StreamKind, outermost, content_of, a_fork}
+use Rattle.syn_replay.specs.Session.State.{AllStreams, kinds, with_stream, moved_to, spent}
+use Rattle.syn_replay.specs.Session.State.{spent_if, recording, recording_on_parent, is_content_of}
+use Rattle.syn_replay.specs.Session.State.{kind_at, stream_at, is_entered_from, ended_from}
+use Rattle.syn_replay.specs.Session.State.{stream_ended, left_from, reported, gathered}
+use Rattle.syn_replay.specs.Session.State.{content_closed, moved_to_fork}
 
 -- a leftover is compared by its span alone
 abbrev pub span_of : Option Leftover → Option Span
@@ -31,31 +31,30 @@ module _ (f g : Laid) where
     pub recorded : span_of s.recorded ≡ span_of t.recorded
 
   -- streams in order are alike, and so are the empty places
-  abbrev pub StatesAlike : AllStreams → AllStreams → Type 0
-  StatesAlike [] [] = Alike f g empty_place empty_place
-  StatesAlike (s ∷ st) (t ∷ su) = StreamsAlike s t × StatesAlike st su
-  StatesAlike st su = ⊥
+  pub data StatesAlike : AllStreams → AllStreams → Type 0 where
+    none : Alike f g empty_place empty_place → StatesAlike [] []
+    more : {s t : Stream} {st su : AllStreams} → StreamsAlike s t → StatesAlike st su
+        → StatesAlike (s ∷ st) (t ∷ su)
 
   pub alike-at : (st su : AllStreams) (k : ℕ) → StatesAlike st su
       → StreamsAlike (stream_at st k) (stream_at su k)
-  alike-at [] [] k h = record { place = h; same = refl; recorded = refl }
-  alike-at [] (t ∷ su) k h = absurd h
-  alike-at (s ∷ st) [] k h = absurd h
-  alike-at (s ∷ st) (t ∷ su) zero h = h.0
-  alike-at (s ∷ st) (t ∷ su) (suc k) h = alike-at st su k h.1
+  alike-at st su k (none h) = record { place = h; same = refl; recorded = refl }
+  alike-at st su zero (more h i) = h
+  alike-at st su (suc k) (more h i) = alike-at _ _ k i
 
   pub alike-length : (st su : AllStreams) → StatesAlike st su → length st ≡ length su
-  alike-length [] [] h = refl
-  alike-length [] (t ∷ su) h = absurd h
-  alike-length (s ∷ st) [] h = absurd h
-  alike-length (s ∷ st) (t ∷ su) h = ap suc (alike-length st su h.1)
+  alike-length st su (none h) = refl
+  alike-length st su (more h i) = ap suc (alike-length _ _ i)
+
+  pub alike-kinds : (st su : AllStreams) → StatesAlike st su → kinds st ≡ kinds su
+  alike-kinds st su (none h) = refl
+  alike-kinds st su (more h i) =
+      ap₂ (λ k ks. k ∷ ks) (ap (λ z. z.kind) h.same) (alike-kinds _ _ i)
 
   pub alike-append : (st su : AllStreams) (s t : Stream) → StatesAlike st su → StreamsAlike s t
       → StatesAlike (st ++ s ∷ []) (su ++ t ∷ [])
-  alike-append [] [] s t h k = (k, h)
-  alike-append [] (y ∷ su) s t h k = absurd h
-  alike-append (x ∷ st) [] s t h k = absurd h
-  alike-append (x ∷ st) (y ∷ su) s t h k = (h.0, alike-append st su s t h.1 k)
+  alike-append st su s t (none h) k = more k (none h)
+  alike-append st su s t (more h i) k = more h (alike-append _ _ s t i k)
 
   -- a change of one stream
   abbrev ChangesAlike : (Stream → Stream) → (Stream → Stream) → Type 0
@@ -63,11 +62,9 @@ module _ (f g : Laid) where
 
   pub alike-with_stream : (st su : AllStreams) (k : ℕ) (a b : Stream → Stream) → ChangesAlike a b
       → StatesAlike st su → StatesAlike (with_stream st k a) (with_stream su k b)
-  alike-with_stream [] [] k a b c h = h
-  alike-with_stream [] (t ∷ su) k a b c h = absurd h
-  alike-with_stream (s ∷ st) [] k a b c h = absurd h
-  alike-with_stream (s ∷ st) (t ∷ su) zero a b c h = (c s t h.0, h.1)
-  alike-with_stream (s ∷ st) (t ∷ su) (suc k) a b c h = (h.0, alike-with_stream st su k a b c h.1)
+  alike-with_stream st su k a b c (none h) = none h
+  alike-with_stream st su zero a b c (more h i) = more (c _ _ h) i
+  alike-with_stream st su (suc k) a b c (more h i) = more h (alike-with_stream _ _ k a b c i)
 
   pub alike-moved : (p q : Place) → Alike f g p q → ChangesAlike (moved_to p) (moved_to q)
   alike-moved p q h s t k = record { place = h; same = k.same; recorded = k.recorded }
@@ -103,27 +100,21 @@ module _ (f g : Laid) where
   -- what is left inside a stream
   alike-chosen : (b c : Bool) (x y : Option Leftover) → b ≡ c → span_of x ≡ span_of y
       → span_of (cond b x None) ≡ span_of (cond c y None)
-  alike-chosen true true x y e h = h
-  alike-chosen true false x y e h = cc
-  alike-chosen false true x y e h = cc
-  alike-chosen false false x y e h = refl
+  alike-chosen true c x y e h = rw (← e) h
+  alike-chosen false c x y e h = rw (← e) refl
 
   alike-left : (k n : ℕ) (st su : AllStreams) → StatesAlike st su
       → span_of (left_from k n st) ≡ span_of (left_from k n su)
-  alike-left k n [] [] h = refl
-  alike-left k n [] (t ∷ su) h = absurd h
-  alike-left k n (s ∷ st) [] h = absurd h
-  alike-left k n (s ∷ st) (t ∷ su) h =
-      let i = h.0 in
+  alike-left k n st su (none h) = refl
+  alike-left k n _ _ (more {s} {t} {st} {su} h i) =
       recorded-or _ _ (left_from k (n + 1) st) (left_from k (n + 1) su)
       (alike-chosen (s.is_open && is_content_of k s.kind) (t.is_open && is_content_of k t.kind) _ _
-      (ap (λ z. z.is_open && is_content_of k z.kind) i.same)
+      (ap (λ z. z.is_open && is_content_of k z.kind) h.same)
       (recorded-or _ _ (leftover s.place) (leftover t.place)
       (recorded-or s.recorded t.recorded (left_from n (n + 1) st) (left_from n (n + 1) su)
-      i.recorded
-      (alike-left n (n + 1) st su h.1))
-      (alike-leftover f g s.place t.place i.place)))
-      (alike-left k (n + 1) st su h.1)
+      h.recorded (alike-left n (n + 1) st su i))
+      (alike-leftover f g s.place t.place h.place)))
+      (alike-left k (n + 1) st su i)
 
   alike-gathered : (st su : AllStreams) → StatesAlike st su → (k : ℕ)
       → StreamsAlike (gathered st k) (gathered su k)
@@ -145,17 +136,13 @@ module _ (f g : Laid) where
 
   alike-from : (ends : ℕ → Bool) (n : ℕ) (st su : AllStreams) → StatesAlike st su
       → StatesAlike (ended_from ends n st) (ended_from ends n su)
-  alike-from ends n [] [] h = h
-  alike-from ends n [] (t ∷ su) h = absurd h
-  alike-from ends n (s ∷ st) [] h = absurd h
-  alike-from ends n (s ∷ st) (t ∷ su) h =
+  alike-from ends n st su (none h) = none h
+  alike-from ends n _ _ (more {s} {t} {st} {su} h i) =
       let b = s.is_open && (ends n || is_entered_from ends s.kind) in
       let same : b ≡ (t.is_open && (ends n || is_entered_from ends t.kind)) =
-      ap (λ z. z.is_open && (ends n || is_entered_from ends z.kind)) h.0.same in
-      subst
-      (λ c. StatesAlike (ended_from ends n (s ∷ st))
-      (spent_if c t ∷ ended_from (λ i. cond (i == n) c (ends i)) (n + 1) su)) same
-      (alike-if b s t h.0, alike-from (λ i. cond (i == n) b (ends i)) (n + 1) st su h.1)
+      ap (λ z. z.is_open && (ends n || is_entered_from ends z.kind)) h.same in
+      rw (← same)
+      (more (alike-if b s t h) (alike-from (λ j. cond (j == n) b (ends j)) (n + 1) st su i))
 
   pub alike-ended : (k : ℕ) (st su : AllStreams) → StatesAlike st su
       → StatesAlike (stream_ended k st) (stream_ended k su)
@@ -164,8 +151,8 @@ module _ (f g : Laid) where
   pub alike-closed : (k : ℕ) (st su : AllStreams) → StatesAlike st su
       → StatesAlike (content_closed k st) (content_closed k su)
   alike-closed k st su h =
-      subst (λ x. StatesAlike (content_closed k st) (stream_ended k
-      (recording_on_parent x (reported su k) su))) (ap (λ z. z.kind) (alike-at st su k h).same)
+      let kind : kind_at st k ≡ kind_at su k = ap (λ z. z.kind) (alike-at st su k h).same in
+      rw (← kind)
       (alike-ended k _ _
       (alike-on_parent (kind_at st k) (reported st k) (reported su k) st su
       (alike-reported st su h k) h))
@@ -181,20 +168,3 @@ module _ (f g : Laid) where
         same = j.same;
         recorded = recorded-or s.recorded t.recorded _ _ j.recorded i.recorded;
       }) h)
-
-  -- What is inside a stream.
-  same-within : (depth : ℕ) (st su : AllStreams) (outer : ℕ) (kind : StreamKind) → StatesAlike st su
-      → is_entered_within depth st outer kind ≡ is_entered_within depth su outer kind
-  same-within zero st su outer kind h = refl
-  same-within (suc depth) st su outer outermost h = refl
-  same-within (suc depth) st su outer a_fork h = refl
-  same-within (suc depth) st su outer (content_of p) h =
-      ap (λ z. p == outer || z) (same-within depth st su outer (kind_at st p) h
-      ∙ ap (λ z. is_entered_within depth su outer z.kind) (alike-at st su p h).same)
-
-  pub same-inside : (st su : AllStreams) (outer inner : ℕ) → StatesAlike st su
-      → is_inside st outer inner ≡ is_inside su outer inner
-  same-inside st su outer inner h =
-      same-within (length st) st su outer (kind_at st inner) h
-      ∙ ap₂ (λ n z. is_entered_within n su outer z.kind) (alike-length st su h)
-      (alike-at st su inner h).same

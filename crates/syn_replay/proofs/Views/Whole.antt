@@ -14,7 +14,7 @@ use Rattle.syn_replay.specs.Session.State.{AllStreams, first_state, reported}
 use Rattle.syn_replay.specs.Session.Step.{step}
 use Rattle.syn_replay.specs.Session.Walk.{lines_from, last_state, verdict, verdict_on}
 use Rattle.syn_replay.proofs.Views.Steps.{alike-step}
-use Rattle.syn_replay.proofs.Views.Streams.{StatesAlike, span_of, alike-reported}
+use Rattle.syn_replay.proofs.Views.Streams.{StatesAlike, none, more, span_of, alike-reported}
 
 module _ (f g : Laid) where
   lines-agree : (cs : List Command) → all_transparent cs ≡ true → (st su : AllStreams)
@@ -53,10 +53,9 @@ laid f = record { number = 0; forest = f }
 alike-first : (f g : Forest) → DifferInInvisibleGroups f g
     → StatesAlike (laid f) (laid g) (first_state f) (first_state g)
 alike-first f g d =
-    let begun = alike-start (laid f) (laid g) d.left_filled d.right_filled d.visible in (
-      record { place = begun; same = refl; recorded = refl },
-      alike-empty (laid f) (laid g) _ _ begun,
-    )
+    let begun = alike-start (laid f) (laid g) d.left_filled d.right_filled d.visible in
+    more (record { place = begun; same = refl; recorded = refl })
+    (none (alike-empty (laid f) (laid g) _ _ begun))
 
 -- the walks of two forests that differ only in invisible groups agree
 pub invisible_groups_do_not_matter : InvisibleGroupsDoNotMatter

@@ -1,41 +1,32 @@
 -- A walk accepts exactly where nothing is left.
-use Rattle.std.proofs.Common.{◌≡◌, ◌∙◌, sym, ap, subst, refl, ℕ, ◌+◌, true}
-use Rattle.std.proofs.Common.{false, List, [], ◌∷◌, ◌++◌, ◌⊎◌, append_assoc, Option, Some, None}
-use Rattle.std.proofs.Common.{arith, inl, inr}
+use Rattle.std.proofs.Common.{◌≡◌, ◌∙◌, sym, ap, subst, refl, ℕ, true, false, List, [], ◌∷◌, ◌++◌}
+use Rattle.std.proofs.Common.{◌⊎◌, append_assoc, Option, None, arith, inl, inr}
 use Rattle.std.proofs.lemmas.Bool.{both_ways, or_left, or_right}
 use Rattle.std.specs.Prelude.{◌==◌}
 use Rattle.tok_core.specs.Forest.{Forest}
 use Rattle.tok_buffer.specs.Ahead.{Leftover, leftover}
 use Rattle.tok_buffer.specs.Place.{Place}
 use Rattle.syn_replay.specs.Session.Acceptance.{EndedInside, Comes, begins, goes_on, all_run}
-use Rattle.syn_replay.specs.Session.Acceptance.{Closes, by_command, at_end, Counts}
-use Rattle.syn_replay.specs.Session.Acceptance.{NothingLeft, IsExact}
+use Rattle.syn_replay.specs.Session.Acceptance.{Closes, by_command, at_end, Counts, NothingLeft}
+use Rattle.syn_replay.specs.Session.Acceptance.{IsExact, is_discard}
 use Rattle.syn_replay.specs.Session.Acceptance as acceptance
 use Rattle.syn_replay.specs.Commands as commands
 use Rattle.syn_replay.specs.Commands.{Command}
 use Rattle.syn_replay.specs.Reports.{Verdict, accepted}
 use Rattle.syn_replay.specs.Session.State.{AllStreams, outermost, first_state, is_open_at, kind_at}
 use Rattle.syn_replay.specs.Session.State.{is_entered_from, is_inside, is_or_inside, closed_inside}
-use Rattle.syn_replay.specs.Session.State.{reported, left_inside, spent_if, stream_at}
+use Rattle.syn_replay.specs.Session.State.{reported, spent_if, stream_at}
 use Rattle.syn_replay.specs.Session.Step.{step}
 use Rattle.syn_replay.specs.Session.Walk.{last_state, verdict_on, walk}
 use Rattle.syn_replay.proofs.Walk.Changes.{open_within}
 use Rattle.syn_replay.proofs.Walk.Inner.{IsSound, above_all, by_parent, inside_look}
 use Rattle.syn_replay.proofs.Walk.Left.{left_emptied, left_none, none_either, none_of}
 use Rattle.syn_replay.proofs.Walk.Steps.{AllClean, IsClean, IsGathered, IsEmptied, AllEvolve}
-use Rattle.syn_replay.proofs.Walk.Steps.{first_clean, first_sound, nothing, run_older, steps}
-use Rattle.syn_replay.proofs.Walk.Steps.{Taken}
+use Rattle.syn_replay.proofs.Walk.Steps.{first_clean, first_sound, nothing, run_older, steps, Taken}
 
 -- what a stream's end says
-accepts_then : (o : Option Leftover)
-    → verdict_on o ≡ accepted → o ≡ None
-accepts_then None h = refl
-accepts_then (Some l) h = cc
-
-then_accepts : (o : Option Leftover) → o ≡ None
-    → verdict_on o ≡ accepted
-then_accepts None h = refl
-then_accepts (Some l) h = cc
+accepts_then : (o : Option Leftover) → verdict_on o ≡ accepted → o ≡ None
+accepts_then o h = grind arith
 
 run_append : (st : AllStreams) (xs ys : List Command)
     → last_state st (xs ++ ys) ≡ last_state (last_state st xs) ys
@@ -96,18 +87,10 @@ module _ (f : Forest) (cs : List Command) where
       go : (t : List Command) → c ∷ more ≡ t ++ q → last_state prior t ≡ b
           → Runs (step c prior).state more b q ⊎ Runs b q (step c prior).state more
       go [] e to =
-          inr (record {
-            taken = c ∷ [];
-            left = sym e;
-            to = ap (λ s. (step c s).state) (sym to);
-          })
+          inr (record { taken = c ∷ []; left = sym e; to = ap (λ s. (step c s).state) (sym to) })
       go (d ∷ t) e to =
-          let same : c ≡ d = cc in
-          inl (record {
-            taken = t;
-            left = cc;
-            to = ap (λ z. last_state (step z prior).state t) same ∙ to;
-          })
+          let same : d ≡ c = cc in
+          inl (record { taken = t; left = cc; to = rw same at to })
 
   -- A stream is open up to a point of the walk, where it records nothing and nothing is left in it.
   record Over (k : ℕ) : Type 0 where
@@ -165,56 +148,46 @@ module _ (f : Forest) (cs : List Command) where
           (later_open c over.st st t p (comes_sound over.st over.rest over.comes) to over.was_open
           o))
 
-  -- a content is over where it reports nothing
-  is_over : (st : AllStreams) (rest : List Command) (k p : ℕ) (q : Place) (after : AllStreams)
-      → Comes f cs st rest → EndedInside st after k p → (stream_at st k).place ≡ q
-      → ((c : Command) (more : List Command) → rest ≡ c ∷ more → after ≡ (step c st).state)
-      → IsEmptied st k → Over k × (leftover q ≡ None)
-  is_over st rest k p q after comes h at last e =
-      let (own, none) = none_of _ _ e in (
+  -- a content that is closed into a stream that is over, is over too, and leaves nothing
+  closed_over : (st : AllStreams) (rest : List Command) (k p : ℕ) (after : AllStreams)
+      → Comes f cs st rest → EndedInside st after k p
+      → ((c : Command) (more : List Command) → rest ≡ c ∷ more
+      → (after ≡ (step c st).state) × (is_discard c.action ≡ false))
+      → Over p → Over k × (leftover (stream_at st k).place ≡ None)
+  closed_over st rest k p after comes h last over =
+      let o = sound.parent k p h.was_open h.inside in
+      let (own, none) = none_of _ _ (emptied (stays st rest comes p o over)) in (
         record {
           st = st;
           rest = rest;
           comes = comes;
           was_open = h.was_open;
-          over = λ c more w. ap (λ z. is_open_at z k) (sym (last c more w)) ∙ h.ended;
+          over = λ c more w. ap (λ z. is_open_at z k) (sym (last c more w).0) ∙ h.ended;
           is_gathered = own;
         },
-        ap leftover (sym at) ∙ none,
+        none,
       )
+    where
+      sound : IsSound st
+      sound = comes_sound st rest comes
 
-  gathered_there : (st us : AllStreams) (p : ℕ) → us ≡ st → IsGathered us p → left_inside st p
-      ≡ None
-  gathered_there st us p e h = (none_of _ _ (rw e at h)).1
+      emptied : Stays st rest p over → IsEmptied st k
+      emptied (ends e r) =
+          let gathered : IsGathered st p = rw e at over.is_gathered in
+          left_emptied st (above_all st sound.nested) p k (none_of _ _ gathered).1 h.was_open
+          h.inside
+      emptied (goes c more e o n) =
+          let (is, other) = last c more e in
+          (steps nothing c st sound).emptied other k p (rw is at h) o n
 
   closes_over : (k p : ℕ) (q : Place) → Closes f cs k p q → Over p
       → Over k × (leftover q ≡ None)
   closes_over k p q (at_end h at) over =
-      let st = all_run f cs in
       let comes = comes_on (first_state f) cs begins in
-      let sound = comes_sound st [] comes in
-      is_over st [] k p q (closed_inside 0 st) comes h at (λ c more w. cc)
-      (emptied sound (stays st [] comes p (sound.parent k p h.was_open h.inside) over))
-    where
-      emptied : IsSound (all_run f cs) → Stays (all_run f cs) [] p over → IsEmptied (all_run f cs) k
-      emptied sound (ends e r) =
-          left_emptied (all_run f cs) (above_all (all_run f cs) sound.nested) p k
-          (gathered_there (all_run f cs) over.st p e over.is_gathered) h.was_open h.inside
-      emptied sound (goes c more e o n) = cc
+      rw at at (closed_over (all_run f cs) [] k p _ comes h (λ c more w. absurd (cc)) over)
   closes_over k p q (by_command st c rest comes other h at) over =
-      let sound = comes_sound st (c ∷ rest) comes in
-      is_over st (c ∷ rest) k p q (step c st).state comes h at
-      (λ d more w. let same : c ≡ d = cc in ap (λ z. (step z st).state) same)
-      (emptied sound (stays st (c ∷ rest) comes p (sound.parent k p h.was_open h.inside) over))
-    where
-      emptied : IsSound st → Stays st (c ∷ rest) p over → IsEmptied st k
-      emptied sound (ends e r) =
-          left_emptied st (above_all st sound.nested) p k
-          (gathered_there st over.st p e over.is_gathered) h.was_open h.inside
-      emptied sound (goes d more e o n) =
-          let same : d ≡ c = cc in
-          (steps nothing c st sound).emptied other k p h
-          (rw same at o) (rw same at n)
+      rw at at (closed_over st (c ∷ rest) k p _ comes h
+      (λ d more w. let same : c ≡ d = cc in rw (← same) (refl, other)) over)
 
   fork_over : (s j : ℕ) → acceptance.Advances f cs s j → Over s → Over j
   fork_over s j a over = go (stays a.before (to_fork ∷ a.rest) a.comes s taken.stream_was over)
@@ -239,22 +212,16 @@ module _ (f : Forest) (cs : List Command) where
             rest = to_fork ∷ a.rest;
             comes = a.comes;
             was_open = taken.was_open;
-            over = λ d more w.
-                let is : to_fork ≡ d = cc in
-                ap (λ z. (is_open_at (step z a.before).state j)) (sym is) ∙ taken.ended;
-            is_gathered =
-                taken.is_gathered (rw same at n);
+            over = λ d more w. let is : d ≡ to_fork = cc in rw is taken.ended;
+            is_gathered = taken.is_gathered (rw same at n);
           }
-
-  whole_open : is_open_at (all_run f cs) 0 ≡ true
-  whole_open = run_whole (first_state f) cs (first_sound f) refl refl
 
   counts_over : IsGathered (all_run f cs) 0 → (k : ℕ) → Counts f cs k → Over k
   counts_over e k acceptance.whole = record {
     st = all_run f cs;
     rest = [];
     comes = comes_on (first_state f) cs begins;
-    was_open = whole_open;
+    was_open = run_whole (first_state f) cs (first_sound f) refl refl;
     over = λ c more w. cc;
     is_gathered = e;
   }
@@ -288,7 +255,7 @@ module _ (f : Forest) (cs : List Command) where
       none_either _ _
       (none_either _ _ (clean 0 acceptance.whole)
       (left_none (λ j. Counts f cs j × (is_or_inside st 0 j ≡ true)) 0 0 st
-      (λ m p o g y.
+      (λ i m p at o g y.
       let inside : is_inside st 0 m ≡ true =
       by_parent st sound.nested 0 m
       ∙ ap (is_entered_from (is_or_inside st 0)) g ∙ y.1 in
@@ -297,12 +264,9 @@ module _ (f : Forest) (cs : List Command) where
       (inside_look st sound 0 m ∙ ap (λ b. spent_if b (stream_at st m)) inside) in
       let closes = at_end (record { was_open = o; inside = g; ended = spent }) refl in
       let counts = acceptance.content m p _ closes y.0 in
-      let same : m ≡ 0 + m = omega arith in (
-        subst (λ j. Counts f cs j × (is_or_inside st 0 j ≡ true)) same
-            (counts, or_right (m == 0) _ inside),
-        clean m counts,
-        n.contents_read m p _ closes y.0,
-      ))
+      let same : i ≡ m = omega arith in
+      rw same
+      ((counts, or_right (m == 0) _ inside), clean m counts, n.contents_read m p _ closes y.0))
       (acceptance.whole, or_left (0 == 0) (is_inside st 0 0) refl)))
       n.whole_read
 
@@ -314,7 +278,7 @@ module _ (f : Forest) (cs : List Command) where
           whole_read = none;
           contents_read = λ k p q c v. (closes_over k p q c (counts_over own p v)).1;
         };
-    wherever = λ n. then_accepts _ (end_clean n);
+    wherever = λ n. ap verdict_on (end_clean n);
   }
 
 pub accepts_when : (f : Forest) (cs : List Command) (v : Verdict) → v ≡ (walk f cs).verdict

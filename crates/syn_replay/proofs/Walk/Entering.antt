@@ -1,6 +1,6 @@
 -- Entering a group, and errors, as the steps of a replay.
 use Rattle.std.proofs.Common.{◌≡◌, ◌∙◌, ap, sym, refl, ℕ, List, [], ◌∷◌, ◌++◌, Option, Some, None}
-use Rattle.std.proofs.Common.{Ok, Err, set}
+use Rattle.std.proofs.Common.{Ok, Err}
 use Rattle.std.specs.Prelude.{true, length, IfOk, Result}
 use Rattle.std.specs.declared.alloc.AllocError.{AllocError}
 use Rattle.tok_lexical.specs.declared.delimiter.Delimiter.{Delimiter}
@@ -10,27 +10,25 @@ use Rattle.tok_buffer.specs.Entry.{Entered}
 use Rattle.tok_buffer.specs.Messages as messages
 use Rattle.tok_buffer.specs.declared.error.Message.{Message}
 use Rattle.syn_parse.specs.Groups.{AreParts, Enters}
-use Rattle.syn_parse.specs.State.{after_group}
 use Rattle.syn_parse.specs.State as parse
 use Rattle.syn_parse.specs.ErrorWords.{refused_at}
 use Rattle.syn_parse.specs.declared.fault.Fault.{Fault}
 use Rattle.syn_parse.specs.declared.fault.Fault.TheVariants.{Refused, Memory}
 use Rattle.syn_replay.specs.Reports as reports
-use Rattle.syn_replay.specs.Session.State.{AllStreams, parse_state, with_stream, content_of, moved_as, stream_from}
-use Rattle.syn_replay.specs.Session.State.{stream_at}
+use Rattle.syn_replay.specs.Session.State.{AllStreams, parse_state, with_stream, content_of}
+use Rattle.syn_replay.specs.Session.State.{moved_as, stream_from, stream_at}
 use Rattle.syn_replay.specs.Session.State as states
 use Rattle.syn_replay.specs.Session.Step.{into_group}
 use Rattle.tok_buffer.specs.Messages.{first_message}
 use Rattle.syn_replay.specs.Meanings.{IsAnswer}
 use Rattle.syn_replay.specs.Session.Promises.{Answers, IsStepped}
 use Rattle.syn_replay.specs.declared.report.Answer.{Answer}
-use Rattle.syn_replay.proofs.Messages.{first_message-one}
 
 -- an answer of the error that is wanted
 answered-error : (r : Message) (e : List Message) (a : Answer) → e ≡ messages.one_message r
     → Answers (Refused e) (Ok a) → IsAnswer a (reports.refused r)
 answered-error r e a h q =
-    let same : first_message e ≡ r = ap first_message h ∙ first_message-one r in
+    let same : first_message e ≡ r = ap first_message h in
     (q.0 ∙ ap reports.refused same, q.1 (h ∙ ap messages.one_message (sym same)))
 
 abbrev pub AreEntered : (Delimiter × DelimSpan × parse.State) → Entered → Type 0
@@ -47,15 +45,7 @@ module _ (st : AllStreams) (n : ℕ) (s : states.Stream) (here : stream_at st n 
         × (with_stream st n (moved_as t) ++ stream_from content (content_of n) true ∷ []
         ≡ (into_group st n s words x).state)
     entered-value None d span content t h = absurd h.0
-    entered-value (Some e) d span content t h = (
-      ap (λ z. reports.entered (length st) z (whole_span span)) h.0.0
-          ∙ ap (reports.entered (length st) e.delimiter) h.0.1.0,
-      ap (λ u. with_stream st n (moved_as u) ++ stream_from content (content_of n) true ∷ []) h.1
-          ∙ ap (λ c. with_stream st n (moved_as (after_group e (parse_state s)))
-          ++ stream_from c (content_of n) true ∷ []) h.0.1.1
-          ∙ ap (λ z. set st n (moved_as (after_group e (parse_state z)) (stream_at st n))
-          ++ stream_from (parse.content_of e) (content_of n) true ∷ []) (sym here),
-    )
+    entered-value (Some e) d span content t ((kind, (group, inside)), left) = (cc, cc)
 
     pub entered-error : (x : Option Entered) (f : Fault) (t : parse.State)
         (result : Result Answer AllocError)

@@ -1,19 +1,21 @@
 -- Which streams end with another, and what each then is.
-use Rattle.std.proofs.Common.{rules, ◌≡◌, ◌∙◌, sym, ap, refl, ℕ, zero, suc, ◌+◌, ◌-◌, ◌≤◌, ◌<◌, inl}
-use Rattle.std.proofs.Common.{inr, Bool, true, false, length, Some, arith}
-use Rattle.std.proofs.lemmas.Bool.{cases_Bool, cases_lt, eqb-true, ne_eqb, or_cases, or_from}
+use Rattle.std.proofs.Common.{◌≡◌, ◌∙◌, sym, ap, refl, ℕ, zero, suc, ◌-◌, ◌≤◌, ◌<◌, inl, inr, Bool}
+use Rattle.std.proofs.Common.{true, false, length, Some, arith}
+use Rattle.std.proofs.lemmas.Bool.{cases_lt}
 use Rattle.std.proofs.lemmas.List.{get_or_past}
 use Rattle.std.proofs.lemmas.Option.{slice_get-get_or, slice_get_past}
 use Rattle.std.specs.List.{slice_get}
 use Rattle.std.specs.Option.{option_map}
-use Rattle.std.specs.Prelude.{◌==◌, ◌&&◌, ◌||◌}
-use Rattle.syn_replay.specs.Session.State.{Stream, AllStreams, StreamKind, outermost, content_of, a_fork}
-use Rattle.syn_replay.specs.Session.State.{is_content_of, is_entered_from, is_open_at, no_stream, spent, spent_if, kind_at}
-use Rattle.syn_replay.specs.Session.State.{stream_at}
-use Rattle.syn_replay.specs.Session.State.{ended_from, is_inside, is_or_inside, is_entered_within, stream_ended, closed_inside, kinds}
+use Rattle.std.specs.Prelude.{◌==◌, ◌&&◌, ◌||◌, not}
+use Rattle.syn_replay.specs.Session.State.{AllStreams, StreamKind, outermost, content_of, a_fork}
+use Rattle.syn_replay.specs.Session.State.{is_content_of, is_entered_from, is_open_at, no_stream}
+use Rattle.syn_replay.specs.Session.State.{spent_if, kind_at, stream_at, ended_from, is_inside}
+use Rattle.syn_replay.specs.Session.State.{is_or_inside, is_entered_within, stream_ended}
+use Rattle.syn_replay.specs.Session.State.{closed_inside, kinds}
 use Rattle.syn_replay.specs.Session.Step.{is_content}
 use Rattle.syn_replay.proofs.Walk.Changes.{same_length}
-use Rattle.syn_replay.proofs.Walk.Ends.{Above, entered_either, kinds_from, looks, same_kind}
+use Rattle.syn_replay.proofs.Walk.Ends.{Above, entered_either, same_kind, entered_same, look_by}
+use Rattle.syn_replay.proofs.Walk.Ends.{ended_length, open_if}
 use Rattle.syn_replay.proofs.Walk.Inside.{within_parent}
 
 -- a content's parent has a lower number
@@ -36,28 +38,18 @@ none_past st k p l f =
 none_within : (depth : ℕ) (st : AllStreams) (outer : ℕ) (kind : StreamKind) → is_content kind
     ≡ false
     → is_entered_within depth st outer kind ≡ false
-none_within zero st outer kind h = refl
-none_within (suc depth) st outer outermost h = refl
-none_within (suc depth) st outer a_fork h = refl
-none_within (suc depth) st outer (content_of p) h = cc
+none_within depth st outer kind h = grind arith
 
 module _ (st : AllStreams) (nested : Nested st) where
   -- a depth that reaches all lower numbers is enough
-  same_depth : (d e outer n : ℕ) (kind : StreamKind) → kind_at st n ≡ kind → n ≤ d → n ≤ e
-      → is_entered_within d st outer kind ≡ is_entered_within e st outer kind
-  same_depth d e outer n outermost k g h =
-      none_within d st outer outermost refl ∙ sym (none_within e st outer outermost refl)
-  same_depth d e outer n a_fork k g h =
-      none_within d st outer a_fork refl ∙ sym (none_within e st outer a_fork refl)
-  same_depth zero e outer n (content_of p) k g h =
-      let b = nested n p k in absurd (omega (arith, b, g))
-  same_depth (suc d) zero outer n (content_of p) k g h =
-      let b = nested n p k in absurd (omega (arith, b, h))
-  same_depth (suc d) (suc e) outer n (content_of p) k g h =
+  deeper : (d outer n : ℕ) (kind : StreamKind) → kind_at st n ≡ kind → n ≤ d
+      → is_entered_within d st outer kind ≡ is_entered_within (suc d) st outer kind
+  deeper d outer n outermost k h = none_within d st outer outermost refl
+  deeper d outer n a_fork k h = none_within d st outer a_fork refl
+  deeper zero outer n (content_of p) k h = let b = nested n p k in absurd (omega (arith, b, h))
+  deeper (suc d) outer n (content_of p) k h =
       let b = nested n p k in
-      ap (λ z. p == outer || z)
-      (same_depth d e outer p (kind_at st p) refl (omega (arith, b, g))
-      (omega (arith, b, h)))
+      ap (λ z. p == outer || z) (deeper d outer p (kind_at st p) refl (omega (arith, b, h)))
 
   pub by_parent : (outer n : ℕ)
       → is_inside st outer n ≡ is_entered_from (is_or_inside st outer) (kind_at st n)
@@ -70,10 +62,11 @@ module _ (st : AllStreams) (nested : Nested st) where
         let b = nested n p k in
         let within : n < length st =
         elim (cases_lt n (length st)) [ inl l ↦ l | inr l ↦ absurd (none_past st n p l k) ] in
+        let all : suc (length st - 1) ≡ length st = omega (arith, within) in
         within_parent (length st) st outer p (omega (arith, within))
         ∙ ap (λ z. p == outer || z)
-        (same_depth (length st - 1) (length st) outer p (kind_at st p) refl
-        (omega (arith, b, within)) (omega (arith, b, within)))
+        (deeper (length st - 1) outer p (kind_at st p) refl (omega (arith, b, within))
+        ∙ ap (λ d. is_entered_within d st outer (kind_at st p)) all)
 
 -- what is inside a stream is told by the kinds
 same_within : (depth : ℕ) (st us : AllStreams) (outer : ℕ) (kind : StreamKind) → kinds st ≡ kinds us
@@ -110,14 +103,9 @@ entered_above st nested zero outer n h (content_of p) k e =
     let b = nested n p k in absurd (omega (arith, b, h))
 entered_above st nested (suc room) outer n h (content_of p) k e =
     let b = nested n p k in
-    elim (or_cases (p == outer) (is_inside st outer p) e) [
-      | inl same ↦ let q = eqb-true p outer same in omega (arith, b, q)
-      | inr deep ↦
-          let low =
-          entered_above st nested room outer p (omega (arith, b, h)) (kind_at st p) refl
-          (sym (by_parent st nested outer p) ∙ deep) in
-          omega (arith, b, low)
-    ]
+    let low = entered_above st nested room outer p (omega (arith, b, h)) (kind_at st p) refl in
+    let inside = by_parent st nested outer p in
+    grind arith
 
 pub inside_above : (st : AllStreams) → Nested st → (outer n : ℕ) → is_inside st outer n ≡ true
     → outer < n
@@ -128,68 +116,60 @@ inside_above st nested outer n e =
 -- so no stream with a lower number is
 pub not_inside : (st : AllStreams) → Nested st → (outer n : ℕ) → n < outer
     → is_or_inside st outer n ≡ false
-not_inside st nested outer n l =
-    or_from (n == outer) (is_inside st outer n) (ne_eqb n outer (λ q. omega arith))
-    (elim (cases_Bool (is_inside st outer n)) [
-      | inr out ↦ out
-      | inl e ↦ let low = inside_above st nested outer n e in absurd (omega (arith, low, l))
-    ])
-
-pub same_stream : (s t : Stream) → spent s ≡ spent t → s.is_open ≡ t.is_open → s ≡ t
-same_stream s t e o = search rules
-
-open_or_not : (b : Bool) (s : Stream) → spent_if (s.is_open && b) s ≡ spent_if b s
-open_or_not b s = search rules
+not_inside st nested outer n l = let low = inside_above st nested outer n in grind arith
 
 module _ (st : AllStreams) (sound : IsSound st) (k : ℕ) where
-  -- the parent of an open stream is open
-  entered_open : (F : ℕ → Bool) (m : ℕ) → is_open_at st m ≡ true
-      → is_entered_from F (kind_at st m)
-      ≡ is_entered_from (λ i. is_open_at st i && F i) (kind_at st m)
-  entered_open F m o = search rules
-
-  -- so what ends is told by a test that follows from the first test and the parents
-  look_by : (f F : ℕ → Bool)
-      → ((m : ℕ) → F m ≡ (f m || is_entered_from F (kind_at st m))) → (m : ℕ)
-      → stream_at (ended_from f 0 st) m ≡ spent_if (F m) (stream_at st m)
-  look_by f F e m =
-      let same : 0 + m ≡ m = omega arith in
-      looks f 0 st (λ i. is_open_at st i && F i) (above_all st sound.nested)
-      (record {
-        before = λ i l. absurd (omega arith);
-        here = λ i.
-            let on : 0 + i ≡ i = omega arith in
-            rw on (if_open (is_open_at st i) _ _
-            (λ o. e i ∙ ap (λ b. f i || b) (entered_open F i o)));
-      }) m
-      ∙ ap (λ z. spent_if (is_open_at st z && F z) (stream_at st m)) same
-      ∙ open_or_not (F m) (stream_at st m)
-    where
-      if_open : (o x y : Bool) → (o ≡ true → x ≡ y) → (o && x) ≡ (o && y)
-      if_open true x y h = h refl
-      if_open false x y h = refl
+  -- the parent of an open stream is open, so what ends is told by the first test and the parents
+  look_so : (f g : ℕ → Bool)
+      → ((m : ℕ) → g m ≡ (f m || is_entered_from g (kind_at st m))) → (m : ℕ)
+      → stream_at (ended_from f 0 st) m ≡ spent_if (g m) (stream_at st m)
+  look_so f g e m =
+      let look =
+      look_by f (λ i. is_open_at st i && g i) st (above_all st sound.nested) (λ i.
+      let same : is_open_at st i ≡ true → is_entered_from g (kind_at st i)
+      ≡ is_entered_from (λ j. is_open_at st j && g j) (kind_at st i) =
+      λ o. entered_same _ _ (kind_at st i) (λ p q. let h = sound.parent i p o q in cc) in
+      let is = e i in
+      grind arith) m in
+      grind arith
 
   pub ended_look : (m : ℕ)
       → stream_at (stream_ended k st) m ≡ spent_if (is_or_inside st k m) (stream_at st m)
   ended_look =
-      look_by (λ n. n == k) (is_or_inside st k)
+      look_so (λ n. n == k) (is_or_inside st k)
       (λ m. ap (λ b. (m == k) || b) (by_parent st sound.nested k m))
+
+  -- a stream with a lower number stays
+  pub ended_before : (m : ℕ) → m < k → stream_at (stream_ended k st) m ≡ stream_at st m
+  ended_before m l =
+      ended_look m ∙ ap (λ b. spent_if b (stream_at st m)) (not_inside st sound.nested k m l)
 
   pub inside_look : (m : ℕ)
       → stream_at (closed_inside k st) m ≡ spent_if (is_inside st k m) (stream_at st m)
   inside_look =
-      look_by (λ n. is_content_of k (kind_at st n)) (is_inside st k)
+      look_so (λ n. is_content_of k (kind_at st n)) (is_inside st k)
       (λ m.
       by_parent st sound.nested k m
       ∙ entered_either (λ n. n == k) (is_inside st k) (is_or_inside st k) (kind_at st m)
       (λ i. refl))
+
+-- after what changes neither kinds nor what is open, a stream ends with those inside it
+pub ended_after : (st mid : AllStreams) → IsSound st → kinds mid ≡ kinds st
+    → ((j : ℕ) → is_open_at mid j ≡ is_open_at st j) → (k n : ℕ)
+    → is_open_at (stream_ended k mid) n ≡ (is_open_at st n && not (is_or_inside st k n))
+ended_after st mid sound same opens k n =
+    let mid_sound = sound_like st mid sound same opens in
+    ap (λ s. s.is_open) (ended_look mid mid_sound k n)
+    ∙ open_if (is_or_inside mid k n) (stream_at mid n)
+    ∙ ap (λ o. o && not (is_or_inside mid k n)) (opens n)
+    ∙ ap (λ b. is_open_at st n && not (n == k || b)) (same_inside mid st k n same)
 
 -- a stream that is there ends, or stays
 pub all_ended : (st : AllStreams) → IsSound st → (k n : ℕ)
     → slice_get (stream_ended k st) n ≡ option_map (spent_if (is_or_inside st k n)) (slice_get st n)
 all_ended st sound k n =
     let b = is_or_inside st k n in
-    let same = same_length (stream_ended k st) st (kinds_from (λ i. i == k) 0 st) in
+    let same = ended_length (λ i. i == k) st in
     elim (cases_lt n (length st)) [
       | inl h ↦
           slice_get-get_or (stream_ended k st) n no_stream (omega (arith, same))

@@ -1,10 +1,10 @@
 -- Which streams are inside another.
-use Rattle.std.proofs.Common.{rules, ◌≡◌, ◌∙◌, sym, ap, refl, ℕ, zero, suc, ◌+◌, ◌-◌, ◌<◌, Bool, true}
-use Rattle.std.proofs.Common.{false, List, get_or, length, Option, Some, None, arith}
+use Rattle.std.proofs.Common.{rules, ◌≡◌, ◌∙◌, sym, ap, ℕ, zero, suc, ◌+◌, ◌-◌, ◌<◌, Bool, false}
+use Rattle.std.proofs.Common.{List, get_or, length, Option, Some, None, arith}
 use Rattle.std.proofs.lemmas.Bool.{ne_eqb}
 use Rattle.std.specs.Prelude.{◌==◌, ◌||◌}
-use Rattle.syn_replay.specs.Session.State.{AllStreams, content_of, kind_at}
-use Rattle.syn_replay.specs.Session.State.{is_entered_within, is_inside}
+use Rattle.syn_replay.specs.Session.State.{AllStreams, content_of, kind_at, is_entered_within}
+use Rattle.syn_replay.specs.Session.State.{is_inside}
 use Rattle.syn_replay.specs.Session.Links.{AreListed}
 use Rattle.syn_replay.specs.Session.Stream.{stream_kind, state_of_list}
 use Rattle.syn_replay.specs.declared.session.stream.Stream.{Stream}
@@ -22,10 +22,7 @@ within_parent (suc depth) st outer p h = search rules
 any_fork : (depth : ℕ) (st : AllStreams) (outer : ℕ) (f : Bool) (o : Option ℕ)
     → is_entered_within depth st outer (stream_kind f o)
     ≡ is_entered_within depth st outer (stream_kind false o)
-any_fork zero st outer f o = refl
-any_fork (suc depth) st outer true None = refl
-any_fork (suc depth) st outer false None = refl
-any_fork (suc depth) st outer f (Some p) = refl
+any_fork depth st outer f o = grind arith
 
 -- the parents that are left decide
 pub record LeftToLook (xs : List Stream) (outer : ℕ) (next : Option ℕ) (all : Bool) : Type 0 where
@@ -83,8 +80,7 @@ above None = 0
 above (Some p) = p + 1
 
 fall : (i : ℕ) (o : Option ℕ) → ((p : ℕ) → o ≡ Some p → p < i) → above o < i + 1
-fall i None h = omega arith
-fall i (Some p) h = let below = h p refl in omega arith
+fall i o h = grind arith
 
 pub falls : (xs : List Stream) (i : ℕ) (x : Stream) → AreListed xs → x ≡ get_or xs i x
     → i < length xs → (o : Option ℕ) → o ≡ Some i → above x.parent < above o

@@ -1,6 +1,6 @@
 -- The line of a read.
-use Rattle.std.proofs.Common.{◌≡◌, ◌∙◌, ap, ap₂, sym, refl, ℕ, Bool, true, false, [], ◌∷◌}
-use Rattle.std.proofs.Common.{length, set, Option, Some, None, Ok, Err, arith}
+use Rattle.std.proofs.Common.{◌≡◌, ◌∙◌, ap, ap₂, sym, refl, ℕ, true, false, [], ◌∷◌, length, set}
+use Rattle.std.proofs.Common.{Option, Some, None, Ok, Err, arith}
 use Rattle.std.proofs.lemmas.Bool.{both_ways, lt-leb}
 use Rattle.std.proofs.lemmas.List.{get_or-set_same, length-set}
 use Rattle.std.specs.Prelude.{◌||◌, not, cond}
@@ -15,11 +15,11 @@ use Rattle.syn_replay.specs.Meanings.{IsAnswer, position_of}
 use Rattle.syn_replay.specs.Reports as reports
 use Rattle.syn_replay.specs.Reports.{missing, misused}
 use Rattle.syn_replay.specs.Session.Reading.{IsDone, is_read}
-use Rattle.syn_replay.specs.Session.State.{AllStreams, Stream, parse_state, moved_to, printed_position}
-use Rattle.syn_replay.specs.Session.State.{is_open_at, kind_at, moved_as, no_stream, stream_at}
-use Rattle.syn_replay.specs.Session.State.{with_stream}
-use Rattle.syn_replay.specs.Session.Step.{Stepped, any_of, has_ended, is_fork, is_unknown, kind_misuse}
-use Rattle.syn_replay.specs.Session.Step.{misuse, named_by, on_stream, other_named, position_in, step}
+use Rattle.syn_replay.specs.Session.State.{AllStreams, Stream, parse_state, moved_to}
+use Rattle.syn_replay.specs.Session.State.{printed_position, is_open_at, kind_at, moved_as}
+use Rattle.syn_replay.specs.Session.State.{no_stream, stream_at, with_stream}
+use Rattle.syn_replay.specs.Session.Step.{Stepped, is_fork, is_unknown, kind_misuse, misuse}
+use Rattle.syn_replay.specs.Session.Step.{named_by, on_stream, other_named, position_in, step}
 use Rattle.syn_replay.specs.Session.Step.{stream_misuse, stream_position, unmoved, with_other}
 use Rattle.syn_replay.specs.Session.Promises.{IsLine, IsOpen, IsStepped, IsStream}
 use Rattle.syn_replay.specs.Session.Stream.{IsReadLine}
@@ -30,6 +30,7 @@ use Rattle.syn_replay.specs.declared.report.Misuse.{Misuse}
 use Rattle.syn_replay.specs.declared.report.Misuse.TheVariants.{NoStream, Spent}
 use Rattle.syn_replay.specs.declared.report.Position.{Position}
 use Rattle.syn_replay.proofs.Walk.Changes.{open_within}
+use Rattle.syn_replay.proofs.Walk.Misuse.{misused_or}
 
 -- an answer and the position after it are the line of a read
 module _ (s new : Stream) (q : Position) (t : parse.State) (is : new ≡ moved_as t s)
@@ -54,9 +55,6 @@ module _ (s new : Stream) (q : Position) (t : parse.State) (is : new ≡ moved_a
   line_refused (commands.read r) e h = line_read r (answer.Refused e) h.0 h.1
   line_refused a e h = h
 
-abbrev misused_or : AllStreams → Option Misuse → Stepped → Stepped
-misused_or st o r = elim o [ Some m ↦ unmoved st (misused m) | None ↦ r ]
-
 -- a line of an answer and a position that are those of a step
 module _ (c : Command) (st after : AllStreams) (x : Answer) (q : Position) (r : Stepped)
     (is : step c st ≡ r) (same : IsAnswer x r.answer) (then : after ≡ r.state) where
@@ -76,17 +74,7 @@ module _ (n : ℕ) (st : AllStreams) (a : Action) (alone : other_named a ≡ Non
   named = ap (with_other n) alone
 
   one_misuse : misuse (on n a) st ≡ option_or (stream_misuse st n) (kind_misuse a st n)
-  one_misuse =
-      ap (λ ns. cond (any_of (is_unknown st) ns) (Some NoStream)
-      (cond (any_of (has_ended st) ns) (Some Spent) (kind_misuse a st n))) named
-      ∙ go (is_unknown st n) (has_ended st n)
-    where
-      go : (u e : Bool)
-          → cond (u || false) (Some NoStream) (cond (e || false) (Some Spent) (kind_misuse a st n))
-          ≡ option_or (cond u (Some NoStream) (cond e (Some Spent) None)) (kind_misuse a st n)
-      go true e = refl
-      go false true = refl
-      go false false = refl
+  one_misuse = rw named (grind arith)
 
   steps_by : (o : Option Misuse) → option_or (stream_misuse st n) (kind_misuse a st n) ≡ o
       → step (on n a) st ≡ misused_or st o (on_stream a st n (stream_at st n))
@@ -94,14 +82,7 @@ module _ (n : ℕ) (st : AllStreams) (a : Action) (alone : other_named a ≡ Non
 
   position_is : (after : AllStreams) (p : reports.Position) → stream_position after n ≡ p
       → (is_unknown st n ≡ true → p ≡ missing) → position_in (on n a) st after ≡ p
-  position_is after p e none =
-      ap (λ ns. cond (any_of (is_unknown st) ns) missing (stream_position after n)) named
-      ∙ go (is_unknown st n) none
-    where
-      go : (u : Bool) → (u ≡ true → p ≡ missing)
-          → cond (u || false) missing (stream_position after n) ≡ p
-      go true h = sym (h refl)
-      go false h = e
+  position_is after p e none = rw named (grind arith)
 
   -- the stream is missing, spent or of another kind
   pub line_misused : (m : Misuse) (l : Line)

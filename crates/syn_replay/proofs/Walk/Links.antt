@@ -1,18 +1,19 @@
 -- Lists of contents that stay, and one that grows.
 use Rattle.std.proofs.Common.{rules, ◌≡◌, ◌∙◌, sym, ap, refl, ℕ, zero, suc, ◌+◌, ◌≤◌, ◌<◌, ◌⊎◌, inl}
-use Rattle.std.proofs.Common.{inr, ◌≢◌, Bool, true, false, List, [], ◌∷◌, ◌++◌, length, length-append, drop, get_or}
-use Rattle.std.proofs.Common.{set, length-set, Option, Some, None, arith}
+use Rattle.std.proofs.Common.{inr, ◌≢◌, Bool, true, false, List, [], ◌∷◌, ◌++◌, length}
+use Rattle.std.proofs.Common.{length-append, drop, get_or, set, length-set, Option, Some, None}
+use Rattle.std.proofs.Common.{arith}
 use Rattle.std.proofs.Math.ListN.{get_or-map}
 use Rattle.std.proofs.Math.Seq.{map-set_same}
 use Rattle.std.proofs.lemmas.Bool.{eq-eqb, ne_eqb}
-use Rattle.std.proofs.lemmas.List.{append-nil, drop-append-le, get_or_past, length-drop, length-map, map-append, map-set}
+use Rattle.std.proofs.lemmas.List.{append-nil, drop-append-le, get_or_past, length-drop, length-map}
+use Rattle.std.proofs.lemmas.List.{map-append, map-set}
 use Rattle.std.proofs.lemmas.Option.{slice_get_cases, slice_get_read, slice_get_within}
 use Rattle.syn_replay.proofs.Walk.Ends.{Above}
 use Rattle.std.specs.List.{slice_get}
-use Rattle.std.specs.Prelude.{◌==◌, cond}
-use Rattle.syn_replay.specs.Session.Links.{IsListed, AreListed}
+use Rattle.std.specs.Prelude.{cond}
+use Rattle.syn_replay.specs.Session.Links.{IsListed, AreListed, contents, contents_by_kind}
 use Rattle.syn_replay.specs.Session.State.{StreamKind, content_of, is_content_of, kinds, no_stream}
-use Rattle.syn_replay.specs.Session.Links.{contents, contents_by_kind}
 use Rattle.syn_replay.specs.Session.Stream.{stream_kind, state_of_list, stream_of}
 use Rattle.syn_replay.specs.declared.session.stream.Stream.{Stream}
 use Rattle.syn_replay.proofs.Walk.Contents.{contents_past}
@@ -86,20 +87,8 @@ more_by_kind : (k n : ℕ) (ks : List StreamKind) (kind : StreamKind)
 more_by_kind k n [] kind = search rules
 more_by_kind k n (j ∷ ks) kind =
     let same : n + 1 + length ks ≡ n + suc (length ks) = omega arith in
-    go (is_content_of k j)
-    (more_by_kind k (n + 1) ks kind
-    ∙ ap (λ z. contents_by_kind k (n + 1) ks ++ cond (is_content_of k kind) (z ∷ []) []) same)
-  where
-    go : (b : Bool)
-        → contents_by_kind k (n + 1) (ks ++ kind ∷ [])
-        ≡ contents_by_kind k (n + 1) ks
-        ++ cond (is_content_of k kind) ((n + suc (length ks)) ∷ []) []
-        → cond b (n ∷ contents_by_kind k (n + 1) (ks ++ kind ∷ []))
-        (contents_by_kind k (n + 1) (ks ++ kind ∷ []))
-        ≡ cond b (n ∷ contents_by_kind k (n + 1) ks) (contents_by_kind k (n + 1) ks)
-        ++ cond (is_content_of k kind) ((n + suc (length ks)) ∷ []) []
-    go true e = ap (λ z. n ∷ z) e
-    go false e = e
+    let more = more_by_kind k (n + 1) ks kind in
+    grind arith
 
 contents_more : (k from : ℕ) (xs : List Stream) (y : Stream) → from ≤ length xs
     → contents k from (state_of_list (xs ++ y ∷ []))
@@ -111,13 +100,10 @@ contents_more k from xs y h =
     let len : length ks ≡ length xs =
     length-map (state_of_list xs) (λ s. s.kind) ∙ length-state xs in
     let last : from + length (drop from ks) ≡ length xs = omega (arith, length-drop from ks, len) in
-    ap (λ z. contents_by_kind k from (drop from z))
-    (ap kinds (map-append stream_of xs (y ∷ []))
-    ∙ map-append (λ s. s.kind) (state_of_list xs) (stream_of y ∷ []))
-    ∙ ap (contents_by_kind k from) (drop-append-le from ks (kind ∷ []) (omega (arith, len)))
-    ∙ more_by_kind k from (drop from ks) kind
-    ∙ ap (λ z. contents_by_kind k from (drop from ks) ++ cond (is_content_of k kind) (z ∷ []) [])
-    last
+    let all : kinds (state_of_list (xs ++ y ∷ [])) ≡ ks ++ kind ∷ [] = simp map-append in
+    let rest = drop-append-le from ks (kind ∷ []) (omega (arith, len)) in
+    let more = more_by_kind k from (drop from ks) kind in
+    cc
 
 -- one stream more, which the stream lists that it is a content of, and which lists none
 listed_with : (xs zs : List Stream) (y : Stream) → AreListed xs → length zs ≡ length xs
@@ -132,17 +118,10 @@ listed_with xs zs y h len same old below none k s at =
       | inl o ↦
           let (x, was_at, parent, list) = old k s o in
           let was = h k x was_at in
-          let more = λ (n : ℕ). cond (is_content_of k (stream_of y).kind) (n ∷ []) [] in
           let within = slice_get_within zs k s o in
-          record {
-            parent = λ p f. was.parent p (sym parent ∙ f);
-            listed =
-                list ∙ ap (λ ks. ks ++ more (length xs))
-                (was.listed
-                ∙ ap (λ z. contents_by_kind k (k + 1) (drop (k + 1) z)) (sym same))
-                ∙ ap (λ n. contents k (k + 1) (state_of_list zs) ++ more n) (sym len)
-                ∙ sym (contents_more k (k + 1) zs y (omega arith));
-          }
+          let before = ap (λ z. contents_by_kind k (k + 1) (drop (k + 1) z)) same in
+          let more = contents_more k (k + 1) zs y (omega arith) in
+          record { parent = λ p f. was.parent p (sym parent ∙ f); listed = cc }
       | inr q ↦
           rw (q.0, q.1) (record {
             parent = λ p f. let b = below p f in omega arith;
@@ -153,28 +132,19 @@ listed_with xs zs y h len same old below none k s at =
           })
     ]
 
--- the kind of a stream with a parent, and of one without
+-- a stream without a parent is no content
 no_parent : (f : Bool) (o : Option ℕ) (k : ℕ) → o ≡ None → is_content_of k (stream_kind f o) ≡ false
-no_parent true None k e = refl
-no_parent false None k e = refl
-no_parent f (Some p) k e = cc
-
-of_parent : (f : Bool) (o : Option ℕ) (k n : ℕ) → o ≡ Some n
-    → is_content_of k (stream_kind f o) ≡ (n == k)
-of_parent f o k n e = ap (λ z. is_content_of k (stream_kind f z)) e
+no_parent f o k e = grind arith
 
 -- a fork
 listed_with_fork : (xs : List Stream) (y : Stream) → AreListed xs → y.parent ≡ None
     → y.contents.items ≡ [] → AreListed (xs ++ y ∷ [])
 listed_with_fork xs y h none =
     listed_with xs xs y h refl refl
-    (λ k s o. (
-      s,
-      o,
-      refl,
-      sym (ap (λ b. s.contents.items ++ cond b (length xs ∷ []) [])
-          (no_parent y.is_fork y.parent k none) ∙ append-nil s.contents.items),
-    )) (λ p f. cc)
+    (λ k s o.
+    let other = no_parent y.is_fork y.parent k none in
+    let nothing = append-nil s.contents.items in
+    (s, o, refl, cc)) (λ p f. cc)
 
 -- a content of stream n, which lists it
 pub listed_with_content : (xs : List Stream) (n : ℕ) (x z y : Stream) → AreListed xs
@@ -182,30 +152,22 @@ pub listed_with_content : (xs : List Stream) (n : ℕ) (x z y : Stream) → AreL
     → z.parent ≡ x.parent → z.contents.items ≡ x.contents.items ++ length xs ∷ []
     → y.parent ≡ Some n → y.contents.items ≡ [] → AreListed (set xs n z ++ y ∷ [])
 listed_with_content xs n x z y h e l kind parent list of_n =
-    let listing = λ (u : Stream) (b : Bool). u.contents.items ++ cond b (length xs ∷ []) [] in
     listed_with xs (set xs n z) y h (length-set xs n z) (same_kinds xs n x z e kind)
     (λ k s o. elim (in_set xs n z k s o) [
-      | inl q ↦ (
-        x,
-        ap (slice_get xs) q.0 ∙ slice_get_read xs (length xs) n x refl l e,
-        ap (λ u. u.parent) q.1 ∙ parent,
-        ap (λ u. u.contents.items) q.1 ∙ list
-            ∙ ap (listing x) (sym (of_parent y.is_fork y.parent k n of_n ∙ eq-eqb n k (sym q.0))),
-      )
-      | inr r ↦ (
-        s,
-        r.1,
-        refl,
-        sym (ap (listing s) (of_parent y.is_fork y.parent k n of_n
-            ∙ ne_eqb n k (λ q. r.0 (sym q))) ∙ append-nil s.contents.items),
-      )
+      | inl q ↦
+          let own : is_content_of k (stream_of y).kind ≡ true = rw of_n (eq-eqb n k (sym q.0)) in
+          let there = slice_get_read xs (length xs) n x refl l e in
+          (x, cc, cc, cc)
+      | inr r ↦
+          let other : is_content_of k (stream_of y).kind ≡ false =
+          rw of_n (ne_eqb n k (λ q. r.0 (sym q))) in
+          let nothing = append-nil s.contents.items in
+          (s, r.1, refl, cc)
     ]) (λ p f. let is : n ≡ p = cc in omega arith)
 
 -- parents have lower numbers
 parent_of : (f : Bool) (o : Option ℕ) (p : ℕ) → stream_kind f o ≡ content_of p → o ≡ Some p
-parent_of true None p e = cc
-parent_of false None p e = cc
-parent_of f (Some q) p e = cc
+parent_of f o p e = grind arith
 
 pub above_listed : (xs : List Stream) → AreListed xs → Above 0 (state_of_list xs)
 above_listed xs h m p e =

@@ -1,7 +1,6 @@
 -- A run of a list parser over tokens of one kind is what the walk says of it.
-use Rattle.std.proofs.Common.{◌≡◌, ◌∙◌, sym, ap, refl, subst, ℕ, suc, ◌≤◌, Bool, true}
-use Rattle.std.proofs.Common.{false, ◌&&◌, List, [], ◌∷◌, ◌++◌, map, Option, Some, None, Ok}
-use Rattle.std.proofs.Common.{Err, arith}
+use Rattle.std.proofs.Common.{◌≡◌, ◌∙◌, sym, ap, refl, subst, ℕ, suc, ◌≤◌, Bool, true, false, ◌&&◌}
+use Rattle.std.proofs.Common.{List, [], ◌∷◌, ◌++◌, map, Option, Some, None, Ok, Err, arith}
 use Rattle.std.proofs.lemmas.Bool.{false≢true}
 use Rattle.std.specs.Prelude.{Result, cond, ◌==◌, nat_lt, is_some}
 use Rattle.std.specs.Global.{Vec}
@@ -37,20 +36,18 @@ use Rattle.syn_replay.specs.Commands as commands
 use Rattle.syn_replay.specs.Commands.{listed_to}
 use Rattle.syn_replay.specs.Reports as reports
 use Rattle.syn_replay.specs.Kinds.{Kind, read, kind_missing}
-use Rattle.syn_replay.specs.Session.Reading.{IsRead, ReadsPieces, AfterPieces, GivesAnswer}
-use Rattle.syn_replay.specs.Session.Reading.{LeavesAt}
-use Rattle.syn_replay.specs.Session.Reading.{pair_parts, punct_pieces}
+use Rattle.syn_replay.specs.Session.Reading.{IsRead, ReadsPieces, GivesAnswer, LeavesAt, pair_parts}
+use Rattle.syn_replay.specs.Session.Reading.{punct_pieces}
 use Rattle.tok_buffer.specs.Messages.{first_message}
 use Rattle.syn_replay.specs.Meanings.{pieces_in}
-use Rattle.syn_replay.specs.Turns.{ListOutcome, read_all, refused_at, with_parts, is_later, no_progress_at}
-use Rattle.syn_replay.specs.Turns.{pieces_of, separator_message, ListRule, terminated, separated}
-use Rattle.syn_replay.specs.Turns.{is_over}
-use Rattle.syn_replay.specs.Turns.{turns, turns_left}
+use Rattle.syn_replay.specs.Turns.{ListOutcome, read_all, refused_at, with_parts, is_later}
+use Rattle.syn_replay.specs.Turns.{no_progress_at, pieces_of, separator_message, ListRule}
+use Rattle.syn_replay.specs.Turns.{terminated, separated, is_over, turns, turns_left}
 use Rattle.syn_replay.specs.declared.report.Answer.{Answer}
 use Rattle.syn_replay.specs.declared.report.Answer.TheVariants as answer
 use Rattle.syn_replay.specs.declared.report.Piece.{Piece}
 use Rattle.syn_replay.proofs.Walk.Pieces.{punctuation-pieces}
-use Rattle.syn_replay.proofs.Messages.{first_message-one, message_there, separator_there}
+use Rattle.syn_replay.proofs.Messages.{message_there, separator_there}
 use Rattle.syn_replay.proofs.Views.EnoughTurns.{more_turns_change_nothing}
 
 -- progress is to begin later
@@ -102,22 +99,20 @@ module _ {F : Type 0} (k n : ℕ) (kind : Kind) (reads : ValueCall F (Vec Piece)
     pieces : pieces_of trees ≡ punct_pieces word p.spans
     then : t ≡ moved t.place m
 
-  separator_in : (m t : State) (p : Punctuation k n) (x : Option (List Tree × Place))
-      → read_punctuation word m.place ≡ x
-      → ReadsAtOnce (λ (v : Punctuation k n). AreSpans v.spans) x (punctuation_message word m) m
-      (Ok p) t → IsSeparator m t p
-  separator_in m t p None e h = absurd h
-  separator_in m t p (Some r) e h =
-      let q : r.1 ≡ t.place = sym (ap (λ (u : State). u.place) h.1) in
-      record {
-        trees = r.0;
-        is = e ∙ ap (λ z. Some (r.0, z)) q;
-        pieces = punctuation-pieces word m.place r e ∙ ap (punct_pieces word) (sym h.0);
-        then = there m t r.1 h.1;
-      }
-
   separator : (m t : State) (p : Punctuation k n) → separates m (Ok p) t → IsSeparator m t p
-  separator m t p h = separator_in m t p (read_punctuation word m.place) refl h
+  separator m t p h = go (read_punctuation word m.place) refl h where
+    go : (x : Option (List Tree × Place)) → read_punctuation word m.place ≡ x
+        → ReadsAtOnce (λ (v : Punctuation k n). AreSpans v.spans) x (punctuation_message word m) m
+        (Ok p) t → IsSeparator m t p
+    go None e h = absurd h
+    go (Some r) e (spans, left) =
+        let at : r.1 ≡ t.place = sym (ap (λ (u : State). u.place) left) in
+        record {
+          trees = r.0;
+          is = rw (← at) e;
+          pieces = punctuation-pieces word m.place r e ∙ ap (punct_pieces word) (sym spans);
+          then = there m t r.1 left;
+        }
 
   -- a separator that is refused
   record NoSeparator (m t : State) (e : Fault) : Type 0 where
@@ -125,15 +120,13 @@ module _ {F : Type 0} (k n : ℕ) (kind : Kind) (reads : ValueCall F (Vec Piece)
     refuses : Refuses (punctuation_message word m) e
     then : t ≡ m
 
-  no_separator_in : (m t : State) (f : Fault) (x : Option (List Tree × Place))
-      → read_punctuation word m.place ≡ x
-      → ReadsAtOnce (λ (v : Punctuation k n). AreSpans v.spans) x (punctuation_message word m) m
-      (Err f) t → NoSeparator m t f
-  no_separator_in m t f None e h = record { none = e; refuses = h.0; then = h.1 }
-  no_separator_in m t f (Some r) e h = absurd h
-
   no_separator : (m t : State) (f : Fault) → separates m (Err f) t → NoSeparator m t f
-  no_separator m t f h = no_separator_in m t f (read_punctuation word m.place) refl h
+  no_separator m t f h = go (read_punctuation word m.place) refl h where
+    go : (x : Option (List Tree × Place)) → read_punctuation word m.place ≡ x
+        → ReadsAtOnce (λ (v : Punctuation k n). AreSpans v.spans) x (punctuation_message word m) m
+        (Err f) t → NoSeparator m t f
+    go None e h = record { none = e; refuses = h.0; then = h.1 }
+    go (Some r) e h = absurd h
 
   -- a value that is read
   record IsValue (s t : State) (v : Vec Piece) : Type 0 where
@@ -142,18 +135,16 @@ module _ {F : Type 0} (k n : ℕ) (kind : Kind) (reads : ValueCall F (Vec Piece)
     pieces : pieces_of trees ≡ pieces_in v
     then : t ≡ moved t.place s
 
-  value_in : (s t : State) (v : Vec Piece) → AfterPieces (read kind s.place) s v t → IsValue s t v
-  value_in s t v h =
-      let q : h.0.1 ≡ t.place = sym (ap (λ (u : State). u.place) h.3) in
-      record {
-        trees = h.0.0;
-        is = h.1 ∙ ap (λ z. Some (h.0.0, z)) q;
-        pieces = sym h.2;
-        then = there s t h.0.1 h.3;
-      }
-
   value : (f g : F) (s t : State) (v : Vec Piece) → Fits f → reads f s (Ok v) g t → IsValue s t v
-  value f g s t v fit h = value_in s t v (tells f g s t (Ok v) fit h).0
+  value f g s t v fit h =
+      let (r, is, made, left) = (tells f g s t (Ok v) fit h).0 in
+      let at : r.1 ≡ t.place = sym (ap (λ (u : State). u.place) left) in
+      record {
+        trees = r.0;
+        is = is ∙ ap (λ z. Some (r.0, z)) at;
+        pieces = sym made;
+        then = there s t r.1 left;
+      }
 
   abbrev T : Type 0
   T = Turn (Vec Piece) (Punctuation k n) F
@@ -187,12 +178,34 @@ module _ {F : Type 0} (k n : ℕ) (kind : Kind) (reads : ValueCall F (Vec Piece)
 
   two_more : (a b : List reports.Piece) (xs : List (List reports.Piece)) (o : ListOutcome)
       → with_parts (a ∷ (b ∷ [])) (with_parts xs o) ≡ with_parts (a ∷ (b ∷ xs)) o
-  two_more a b xs (read_all more p) = refl
-  two_more a b xs (refused_at r p) = refl
+  two_more a b xs o = grind arith
 
   no_parts : (o : ListOutcome) → o ≡ with_parts [] o
-  no_parts (read_all more p) = refl
-  no_parts (refused_at r p) = refl
+  no_parts o = grind arith
+
+  -- what an error says of the outcome from where the run begins
+  abbrev pub Fails : State → ListOutcome → Fault → State → Type 0
+  Fails s o (Refused e) t = (w : Message) × (o ≡ refused_at w t.place)
+      × (e ≡ messages.one_message w) × (t ≡ moved t.place s)
+  Fails s o (Memory e) t = Unit {0}
+
+  fails_with : (s : State) (o : ListOutcome) (f : Fault) (t : State) (w : Message) → Refuses w f
+      → o ≡ refused_at w t.place → t ≡ moved t.place s → Fails s o f t
+  fails_with s o (Refused e) t w h i j = (w, i, h, j)
+  fails_with s o (Memory e) t w h i j = tt
+
+  fails_lost : (s : State) (o : ListOutcome) (f : Fault) (t : State) → IsMemory f → Fails s o f t
+  fails_lost s o (Refused e) t h = absurd h
+  fails_lost s o (Memory e) t h = tt
+
+  -- a value that is refused
+  fails_at_value : (s : State) (o : ListOutcome) (f : Fault) (t : State) (w : Message)
+      → ReadsPieces (read kind s.place) (kind_missing kind s) s (Err f) t
+      → kind_missing kind s ≡ w → (read kind s.place ≡ None → o ≡ refused_at w s.place)
+      → Fails s o f t
+  fails_at_value s o (Refused e) t w (none, one, back) same i =
+      rw back (w, i none, one ∙ ap messages.one_message same, refl)
+  fails_at_value s o (Memory e) t w h same i = tt
 
   -- what an ending says of the outcome from where it begins
   abbrev Concludes : State → ListOutcome → List T
@@ -201,64 +214,23 @@ module _ {F : Type 0} (k n : ℕ) (kind : Kind) (reads : ValueCall F (Vec Piece)
       (more : List (Vec Piece)) × (values_of list ≡ map turn_value turns ++ more)
       × (separators_of list ≡ map turn_separator turns)
       × (o ≡ read_all (map pieces_in more) t.place) × (t ≡ moved t.place s)
-  Concludes s o turns (Err (Refused e)) t = (w : Message) × (o ≡ refused_at w t.place)
-      × (e ≡ messages.one_message w) × (t ≡ moved t.place s)
-  Concludes s o turns (Err (Memory e)) t = Unit {0}
-
-  concludes_refused : (s : State) (o : ListOutcome) (turns : List T) (f : Fault)
-      (r : Result (Punctuated (Vec Piece) (Punctuation k n)) Fault) (t : State) (w : Message)
-      → r ≡ Err f → Refuses w f → o ≡ refused_at w t.place → t ≡ moved t.place s
-      → Concludes s o turns r t
-  concludes_refused s o turns (Refused e) r t w q h i j = rw q (w, i, h, j)
-  concludes_refused s o turns (Memory e) r t w q h i j = rw q tt
-
-  concludes_lost : (s : State) (o : ListOutcome) (turns : List T) (f : Fault)
-      (r : Result (Punctuated (Vec Piece) (Punctuation k n)) Fault) (t : State) → r ≡ Err f
-      → IsMemory f → Concludes s o turns r t
-  concludes_lost s o turns (Refused e) r t q h = absurd h
-  concludes_lost s o turns (Memory e) r t q h = rw q tt
-
-  -- a value that is refused
-  concludes_no_value : (s : State) (o : ListOutcome) (turns : List T) (f : Fault)
-      (r : Result (Punctuated (Vec Piece) (Punctuation k n)) Fault) (t : State) (w : Message)
-      → ReadsPieces (read kind s.place) (kind_missing kind s) s (Err f) t → r ≡ Err f
-      → kind_missing kind s ≡ w
-      → (read kind s.place ≡ None → o ≡ refused_at w s.place) → Concludes s o turns r t
-  concludes_no_value s o turns (Refused e) r t w h q same i =
-      rw q (
-        w,
-        i h.0 ∙ ap (λ (u : State). refused_at w u.place) (sym h.2),
-        h.1
-            ∙ ap messages.one_message same,
-        here s t h.2,
-      )
-  concludes_no_value s o turns (Memory e) r t w h q same i = rw q tt
+  Concludes s o turns (Err f) t = Fails s o f t
 
   -- what a run says of the outcome from where it begins
   abbrev pub Told : State → ListOutcome → Result (Punctuated (Vec Piece) (Punctuation k n)) Fault
       → State → Type 0
   Told s o (Ok list) t = (o ≡ read_all (flat_map (pair_parts word)
       (paired (values_of list) (separators_of list))) t.place) × (t ≡ moved t.place s)
-  Told s o (Err (Refused e)) t = (w : Message) × (o ≡ refused_at w t.place)
-      × (e ≡ messages.one_message w) × (t ≡ moved t.place s)
-  Told s o (Err (Memory e)) t = Unit {0}
+  Told s o (Err f) t = Fails s o f t
 
   run_told : (s m t : State) (whole rest : ListOutcome) (turns : List T)
       (r : Result (Punctuated (Vec Piece) (Punctuation k n)) Fault)
       → whole ≡ with_parts (parts_of turns) rest → m ≡ moved m.place s → Concludes m rest turns r t
       → Told s whole r t
-  run_told s m t whole rest turns (Ok list) e h c = (
-    e ∙ ap (with_parts (parts_of turns)) c.3
-        ∙ ap (λ z. read_all z t.place) (sym (paired_parts turns c.0))
-        ∙ ap (λ z. read_all (flat_map (pair_parts word) (paired z (map turn_separator turns)))
-        t.place)
-        (sym c.1)
-        ∙ ap (λ z. read_all (flat_map (pair_parts word) (paired (values_of list) z)) t.place)
-        (sym c.2),
-    along s m t h c.4,
-  )
-  run_told s m t whole rest turns (Err (Refused f)) e h c =
-      (c.0, e ∙ ap (with_parts (parts_of turns)) c.1, c.2, along s m t h c.3)
+  run_told s m t whole rest turns (Ok list) e h (more, values, separators, is, to) =
+      let pairs = paired_parts turns more in (cc, along s m t h to)
+  run_told s m t whole rest turns (Err (Refused f)) e h (w, is, one, to) =
+      (w, e ∙ ap (with_parts (parts_of turns)) is, one, along s m t h to)
   run_told s m t whole rest turns (Err (Memory f)) e h c = tt
 
   -- the rule of the run that reads a list of this rule
@@ -331,99 +303,71 @@ module _ {F : Type 0} (k n : ℕ) (kind : Kind) (reads : ValueCall F (Vec Piece)
         (rounds scope rule m turn.after.place)) × (turn.after ≡ moved turn.after.place s)
     one_turn m f s turn fit i e =
         let v = value f turn.parser s turn.between turn.value fit i.opens.1 in
-        let p = separator turn.between turn.after turn.separator i.closes in (
-          full m s.place turn.between.place turn.after.place v.trees p.trees
-              (begins rule s.place i.opens.0) v.is (goes_on rule turn.between.place i.goes_on) p.is
-              e
-              ∙ ap (λ z. with_parts (z ∷ (pieces_of p.trees ∷ []))
-              (rounds scope rule m turn.after.place)) v.pieces
-              ∙ ap (λ z. with_parts (pieces_in turn.value ∷ (z ∷ []))
-              (rounds scope rule m turn.after.place)) p.pieces,
-          along s turn.between turn.after v.then p.then,
-        )
+        let p = separator turn.between turn.after turn.separator i.closes in
+        let all =
+        full m s.place turn.between.place turn.after.place v.trees p.trees
+        (begins rule s.place i.opens.0) v.is (goes_on rule turn.between.place i.goes_on) p.is e in
+        (cc, along s turn.between turn.after v.then p.then)
 
     chain_rounds : (m : ℕ) (turns : List T) (f g : F) (s t : State) → Fits f
         → Chain (run_rule rule) reads separates f s turns g t
         → (rounds scope rule (fuel turns m) s.place
         ≡ with_parts (parts_of turns) (rounds scope rule m t.place))
         × (t ≡ moved t.place s) × Fits g
-    chain_rounds m [] f g s t fit c = (
-      ap (λ (u : State). rounds scope rule m u.place) c.1
-          ∙ no_parts (rounds scope rule m t.place),
-      here s t (sym c.1),
-      subst Fits c.0 fit,
-    )
+    chain_rounds m [] f g s t fit c =
+        rw (← c.0, ← c.1) (no_parts (rounds scope rule m s.place), refl, fit)
     chain_rounds m (turn ∷ turns) f g s t fit c =
         let next = (tells f turn.parser s turn.between (Ok turn.value) fit c.0.opens.1).1 in
         let one = one_turn (fuel turns m) f s turn fit c.0
         (sym (progress_is s.place turn.after.place) ∙ c.1) in
-        let more = chain_rounds m turns turn.parser g turn.after t next c.2 in (
-          one.0 ∙ ap (with_parts (pieces_in turn.value ∷ (punct_pieces word
-              turn.separator.spans ∷ []))) more.0
-              ∙ two_more (pieces_in turn.value) (punct_pieces word turn.separator.spans)
-              (parts_of turns) (rounds scope rule m t.place),
-          along s turn.after t one.1 more.1,
-          more.2,
-        )
+        let more = chain_rounds m turns turn.parser g turn.after t next c.2 in
+        let joined =
+        two_more (pieces_in turn.value) (punct_pieces word turn.separator.spans) (parts_of turns)
+        (rounds scope rule m t.place) in
+        (cc, along s turn.after t one.1 more.1, more.2)
 
     ending_concludes : (m : ℕ) (turns : List T) (f : F) (s t : State)
         (r : Result (Punctuated (Vec Piece) (Punctuation k n)) Fault) → Fits f
         → s.scope_span ≡ scope
         → Ending (run_rule rule) reads separates f s turns r t
         → Concludes s (rounds scope rule (suc m) s.place) turns r t
-    ending_concludes m turns f s t (Ok list) fit e (at_end i q h) = (
-      [],
-      h.0,
-      h.1,
-      at_the_end m s.place (ends rule s.place i)
-          ∙ ap (λ (u : State). read_all [] u.place) (sym q),
-      here s t q,
-    )
+    ending_concludes m turns f s t (Ok list) fit e (at_end i q h) =
+        rw q ([], h.0, h.1, at_the_end m s.place (ends rule s.place i), refl)
     ending_concludes m turns f s t (Err x) fit e (at_end i q h) = absurd h
     ending_concludes m turns f s t (Ok list) fit e (bare v g b i h) =
-        let w = value f g s t v fit b.1 in (
-          v ∷ [],
-          h.0,
-          h.1,
-          last scope rule m s.place t.place w.trees (begins rule s.place b.0) w.is i
-              ∙ ap (λ z. read_all (z ∷ []) t.place) w.pieces,
-          w.then,
-        )
+        let w = value f g s t v fit b.1 in
+        let is = last scope rule m s.place t.place w.trees (begins rule s.place b.0) w.is i in
+        (v ∷ [], h.0, h.1, cc, w.then)
     ending_concludes m turns f s t (Err x) fit e (bare v g b i h) = absurd h
     ending_concludes m turns f s t r fit e (value_refused x g b q) =
-        concludes_no_value s _ turns x r t (kind_missing kind (fresh s.place scope))
-        (tells f g s t (Err x) fit b.1).0 q
+        rw q (fails_at_value s _ x t (kind_missing kind (fresh s.place scope))
+        (tells f g s t (Err x) fit b.1).0
         (message_there kind s ∙ ap (λ z. kind_missing kind (fresh s.place z)) e)
-        (λ h. none m s.place (begins rule s.place b.0) h)
+        (none m s.place (begins rule s.place b.0)))
     ending_concludes m turns f s t r fit e (separator_refused v g u x b i h q) =
         let w = value f g s u v fit b.1 in
         let p = no_separator u t x h in
-        let back : t.place ≡ u.place = ap (λ (z : State). z.place) p.then in
-        concludes_refused s _ turns x r t (punctuation_message word u) q p.refuses
-        (without scope rule m s.place u.place w.trees (begins rule s.place b.0) w.is i p.none
-        ∙ ap (λ z. refused_at (punctuation_message word (fresh u.place z)) u.place)
-        (sym (in_scope s u w.then ∙ e))
-        ∙ ap (λ z. refused_at z u.place) (sym (separator_there word u))
-        ∙ ap (refused_at (punctuation_message word u)) (sym back))
-        (along s u t w.then (here u t p.then))
-    ending_concludes m turns f s t r fit e (value_lost v g x b i h q) =
-        concludes_lost s _ turns x r t q h
-    ending_concludes m turns f s t r fit e (turn_lost turn x i q h j) =
-        concludes_lost s _ turns x r t j h
+        let is =
+        without scope rule m s.place u.place w.trees (begins rule s.place b.0) w.is i p.none in
+        let same = in_scope s u w.then in
+        let there = separator_there word u in
+        rw (q, p.then)
+        (fails_with s _ x u (punctuation_message word u) p.refuses (cc) w.then)
+    ending_concludes m turns f s t r fit e (value_lost v g x b i h q) = rw q (fails_lost s _ x t h)
+    ending_concludes m turns f s t r fit e (turn_lost turn x i q h j) = rw j (fails_lost s _ x t h)
     ending_concludes m turns f s t r fit e (stuck turn x i q u h j) =
         let v = value f turn.parser s turn.between turn.value fit i.opens.1 in
         let p = separator turn.between turn.after turn.separator i.closes in
-        let same : turn.after ≡ moved turn.after.place s =
-        along s turn.between turn.after v.then p.then in
-        let to : t ≡ moved t.place s = rw q same in
+        let to : t ≡ moved t.place s = rw q (along s turn.between turn.after v.then p.then) in
         let place : t.place ≡ turn.after.place = ap (λ (z : State). z.place) q in
-        concludes_refused s _ turns x r t (runs.no_progress t) j h
-        (stuck_refuses m s.place turn.between.place turn.after.place v.trees p.trees
-        (begins rule s.place i.opens.0) v.is (goes_on rule turn.between.place i.goes_on) p.is
-        (sym (progress_is s.place turn.after.place)
-        ∙ ap (progresses s.place) (sym place) ∙ u.0)
-        ∙ ap (λ z. refused_at (no_progress_at z scope) z) (sym place)
-        ∙ ap (λ z. refused_at (no_progress_at t.place z) t.place) (sym (in_scope s t to ∙ e))) to
+        let same = in_scope s t to in
+        let late : is_later s.place turn.after.place ≡ false =
+        sym (progress_is s.place turn.after.place) ∙ ap (progresses s.place) (sym place) ∙ u.0 in
+        let is =
+        stuck_refuses m s.place turn.between.place turn.after.place v.trees p.trees
+        (begins rule s.place i.opens.0) v.is (goes_on rule turn.between.place i.goes_on) p.is late
+        in
+        rw j (fails_with s _ x t (runs.no_progress t) h (cc) to)
 
   list-told : (rule : ListRule) (f : F) (s t : State)
       (r : Result (Punctuated (Vec Piece) (Punctuation k n)) Fault) → Fits f
@@ -446,21 +390,13 @@ module _ {F : Type 0} (k n : ℕ) (kind : Kind) (reads : ValueCall F (Vec Piece)
       (paired (values_of list) (separators_of list))
       → GivesAnswer (listed_to o).0 (Ok (answer.List ps))
       × LeavesAt (Ok (answer.List ps)) t (moved (listed_to o).1 s)
-  told-answer s t o list ps h e = (
-    (ap reports.list e ∙ ap (λ z. (listed_to z).0) (sym h.0), tt),
-    h.1 ∙ ap (λ z. moved (listed_to z).1 s) (sym h.0),
-  )
+  told-answer s t o list ps (is, to) e = rw is ((ap reports.list e, tt), to)
 
   told-error : (s t : State) (o : ListOutcome) (f : Fault) → Told s o (Err f) t
       → GivesAnswer (listed_to o).0 (Err f) × LeavesAt (Err f) t (moved (listed_to o).1 s)
-  told-error s t o (Refused e) h =
-      let same : first_message e ≡ h.0 = ap first_message h.2 ∙ first_message-one h.0 in (
-        (
-          ap reports.refused same ∙ ap (λ z. (listed_to z).0) (sym h.1),
-          h.2 ∙ ap messages.one_message (sym same),
-        ),
-        h.3 ∙ ap (λ z. moved (listed_to z).1 s) (sym h.1),
-      )
+  told-error s t o (Refused e) (w, is, one, to) =
+      let same : first_message e ≡ w = ap first_message one in
+      rw is ((ap reports.refused same, one ∙ ap messages.one_message (sym same)), to)
   told-error s t o (Memory e) h = (tt, tt)
 
   module _ (rule : ListRule) (text : List ℕ) (is : text ≡ word) where
@@ -470,10 +406,7 @@ module _ {F : Type 0} (k n : ℕ) (kind : Kind) (reads : ValueCall F (Vec Piece)
         (paired (values_of list) (separators_of list))
         → IsRead (commands.list rule kind text) s (Ok (answer.List ps)) t
     list-read f s t list ps fit run =
-        subst (λ z. map pieces_in ps.items ≡ flat_map (pair_parts z)
-        (paired (values_of list) (separators_of list))
-        → IsRead (commands.list rule kind z) s (Ok (answer.List ps)) t) (sym is)
-        (λ e. told-answer s t _ list ps (list-told rule f s t (Ok list) fit run) e)
+        rw is (told-answer s t _ list ps (list-told rule f s t (Ok list) fit run))
 
     pub list-refused : (f : F) (s t : State) (e : Fault) (r : Result Answer Fault) → Fits f
         → IsRun (run_rule rule) reads separates f s (Err e) t → r ≡ Err e

@@ -1,22 +1,15 @@
 -- A command that fits its streams, and one that does not.
-use Rattle.std.proofs.Common.{◌≡◌, refl, ℕ, Bool, true, false, Option}
-use Rattle.std.proofs.Common.{Some, None}
+use Rattle.std.proofs.Common.{◌≡◌, ℕ, true, false, Option, Some, None, arith}
 use Rattle.std.proofs.lemmas.Bool.{not-false, or_parts}
-use Rattle.std.specs.Prelude.{◌||◌, cond}
+use Rattle.std.specs.Prelude.{◌||◌}
 use Rattle.syn_replay.specs.Commands.{Command}
 use Rattle.syn_replay.specs.declared.report.Misuse.{Misuse}
-use Rattle.syn_replay.specs.declared.report.Misuse.TheVariants.{NoStream, Spent}
 use Rattle.syn_replay.specs.Session.State.{AllStreams, is_open_at}
 use Rattle.syn_replay.specs.Reports.{misused}
 use Rattle.syn_replay.specs.Session.Step.{Stepped, any_of, is_unknown, has_ended, unmoved}
 use Rattle.syn_replay.specs.Session.Step.{kind_misuse, misuse, named_by}
 
 -- what the tests say of the streams that a command names
-cond_none : (b : Bool) (n : Misuse) (rest : Option Misuse) → cond b (Some n) rest ≡ None
-    → (b ≡ false) × (rest ≡ None)
-cond_none true n rest h = cc
-cond_none false n rest h = (refl, h)
-
 pub record Fits (c : Command) (st : AllStreams) : Type 0 where
   pub there : any_of (is_unknown st) (named_by c) ≡ false
   pub is_open : any_of (has_ended st) (named_by c) ≡ false
@@ -24,12 +17,7 @@ pub record Fits (c : Command) (st : AllStreams) : Type 0 where
 
 pub fits : (c : Command) (st : AllStreams) → misuse c st ≡ None → Fits c st
 fits c st h =
-    let (a, rest) =
-    cond_none (any_of (is_unknown st) (named_by c)) NoStream
-    (cond (any_of (has_ended st) (named_by c)) (Some Spent) (kind_misuse c.action st c.stream)) h in
-    let (b, d) =
-    cond_none (any_of (has_ended st) (named_by c)) Spent (kind_misuse c.action st c.stream) rest in
-    record { there = a; is_open = b; kind = d }
+    record { there = grind arith; is_open = grind arith; kind = grind arith }
 
 pub one_open : (st : AllStreams) (n : ℕ) → (has_ended st n || false) ≡ false
     → is_open_at st n ≡ true

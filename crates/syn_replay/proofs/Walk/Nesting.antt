@@ -1,8 +1,7 @@
 -- A stream ends with the streams inside it, and with no other.
-use Rattle.std.proofs.Common.{◌≡◌, ◌∙◌, sym, ap, refl, ℕ, Bool, true, false, Option}
-use Rattle.std.proofs.Common.{Some, None}
+use Rattle.std.proofs.Common.{◌≡◌, ◌∙◌, sym, ap, refl, ℕ, Bool, Option, Some, None, arith}
 use Rattle.std.specs.List.{slice_get}
-use Rattle.std.specs.Prelude.{◌==◌, ◌&&◌, ◌||◌, not, cond}
+use Rattle.std.specs.Prelude.{◌&&◌, not, cond}
 use Rattle.tok_buffer.specs.Ahead.{Leftover}
 use Rattle.syn_replay.specs.Commands as commands
 use Rattle.syn_replay.specs.Commands.{Command}
@@ -12,28 +11,17 @@ use Rattle.syn_replay.specs.declared.report.Misuse.{Misuse}
 use Rattle.syn_replay.specs.declared.report.Misuse.TheVariants.{OutOfScope}
 use Rattle.syn_replay.specs.Session.State.{AllStreams, StreamKind, outermost, content_of, a_fork}
 use Rattle.syn_replay.specs.Session.State.{first_state, with_stream, recording, recording_on_parent}
-use Rattle.syn_replay.specs.Session.State.{stream_ended, content_closed, moved_to_fork}
-use Rattle.syn_replay.specs.Session.State.{reported, gathered, is_inside, kind_at, kinds, moved_on}
-use Rattle.syn_replay.specs.Session.State.{is_or_inside, is_open_at, stream_at}
+use Rattle.syn_replay.specs.Session.State.{content_closed, moved_to_fork, reported, gathered}
+use Rattle.syn_replay.specs.Session.State.{is_inside, kind_at, kinds, moved_on, is_or_inside}
+use Rattle.syn_replay.specs.Session.State.{is_open_at, stream_at}
 use Rattle.syn_replay.specs.Session.Step.{Stepped, misuse, on_stream, unmoved, step}
 use Rattle.syn_replay.specs.Session.Walk.{last_state}
 use Rattle.syn_replay.proofs.Walk.Changes.{kept_by, kinds_changed}
 use Rattle.syn_replay.proofs.Walk.Ends.{open_if}
-use Rattle.syn_replay.proofs.Walk.Inner.{IsSound, all_ended, by_parent, ended_look, inside_look}
-use Rattle.syn_replay.proofs.Walk.Inner.{same_inside, sound_like}
+use Rattle.syn_replay.proofs.Walk.Inner.{IsSound, all_ended, by_parent, inside_look, sound_like}
+use Rattle.syn_replay.proofs.Walk.Inner.{ended_after}
 use Rattle.syn_replay.proofs.Walk.Misuse.{misused_or}
 use Rattle.syn_replay.proofs.Walk.Steps.{first_sound, run_sound}
-
--- after what changes neither kinds nor what is open, a stream ends with those inside it
-ended_after : (st mid : AllStreams) → IsSound st → kinds mid ≡ kinds st
-    → ((j : ℕ) → is_open_at mid j ≡ is_open_at st j) → (k n : ℕ)
-    → is_open_at (stream_ended k mid) n ≡ (is_open_at st n && not (is_or_inside st k n))
-ended_after st mid sound same opens k n =
-    let mid_sound = sound_like st mid sound same opens in
-    ap (λ s. s.is_open) (ended_look mid mid_sound k n)
-    ∙ open_if (is_or_inside mid k n) (stream_at mid n)
-    ∙ ap (λ o. o && not (is_or_inside mid k n)) (opens n)
-    ∙ ap (λ b. is_open_at st n && not (n == k || b)) (same_inside mid st k n same)
 
 pub recording_kinds : (kind : StreamKind) (n : Option Leftover) (st : AllStreams)
     → kinds (recording_on_parent kind n st) ≡ kinds st
@@ -46,6 +34,11 @@ pub recording_open : (kind : StreamKind) (n : Option Leftover) (st : AllStreams)
 recording_open outermost n st j = refl
 recording_open a_fork n st j = refl
 recording_open (content_of p) n st j = kept_by (λ s. s.is_open) (recording n) (λ s. refl) st p j
+
+pub recording_sound : (kind : StreamKind) (n : Option Leftover) (st : AllStreams) → IsSound st
+    → IsSound (recording_on_parent kind n st)
+recording_sound kind n st sound =
+    sound_like st _ sound (recording_kinds kind n st) (recording_open kind n st)
 
 -- a command that is done is done on its stream
 done_or : (st : AllStreams) (m : Option Misuse) (r : Stepped) → (misused_or st m r).answer ≡ done
@@ -72,8 +65,7 @@ advance_done : (b : Bool) (st after : AllStreams)
     ≡ done
     → (cond b (record { answer = done; state = after }) (unmoved st (misused OutOfScope))).state
     ≡ after
-advance_done true st after h = refl
-advance_done false st after h = cc
+advance_done b st after h = grind arith
 
 advanced_open : (st : AllStreams) → IsSound st → (k f n : ℕ)
     → is_open_at (moved_to_fork k f st) n ≡ (is_open_at st n && not (is_or_inside st f n))

@@ -1,15 +1,14 @@
 -- Commands do on a fork what they do on its stream.
-use Rattle.std.proofs.Common.{rules, ◌≡◌, ◌∙◌, sym, ap, ap₂, subst, refl, ℕ, zero, suc, ◌+◌, ◌-◌, ◌<◌}
-use Rattle.std.proofs.Common.{◌≤◌, Bool, true, false, List, [], ◌∷◌, ◌++◌, ◌⊎◌, drop, length, map}
+use Rattle.std.proofs.Common.{rules, ◌≡◌, ◌∙◌, sym, ap, ap₂, subst, refl, ℕ, zero, suc, ◌+◌, ◌-◌}
+use Rattle.std.proofs.Common.{◌<◌, ◌≤◌, Bool, true, false, List, [], ◌∷◌, ◌++◌, drop, length, map}
 use Rattle.std.proofs.Common.{Option, Some, None, arith, inl, inr, length-append}
 use Rattle.std.proofs.Math.ListN.{get_or-append, get_or-map}
-use Rattle.std.proofs.Math.Seq.{get_or-append_right, get_or-append_seam}
-use Rattle.std.proofs.lemmas.Bool.{and_from, and_parts, both_ways, cases_eq, cases_lt, eq-eqb, le-leb}
-use Rattle.std.proofs.lemmas.Bool.{lt-leb, ne_eqb, not-true}
-use Rattle.std.proofs.lemmas.List.{ext_get_or, get_or-drop, get_or_past, get_or-set_other, get_or-set_same}
-use Rattle.std.proofs.lemmas.List.{length-drop, length-map, length-set, set_past}
+use Rattle.std.proofs.Math.Seq.{get_or-append_right}
+use Rattle.std.proofs.lemmas.Bool.{and_parts, cases_lt, eq-eqb, le-leb, lt-leb, not-true, cond_both}
+use Rattle.std.proofs.lemmas.List.{ext_get_or, get_or-drop, get_or_past, get_or-set_same}
+use Rattle.std.proofs.lemmas.List.{length-drop, length-map, length-set, set_past, places}
 use Rattle.std.specs.List.{slice_get}
-use Rattle.std.specs.Prelude.{◌==◌, ◌&&◌, ◌||◌, not, cond, nat_le}
+use Rattle.std.specs.Prelude.{◌==◌, not, cond, nat_le}
 use Rattle.std.specs.Option.{option_map, option_or}
 use Rattle.tok_leaves.specs.declared.span.Span.{Span}
 use Rattle.tok_leaves.specs.Spans.{closing_span}
@@ -22,38 +21,38 @@ use Rattle.tok_buffer.specs.Reads as reads
 use Rattle.tok_buffer.specs.declared.error.Message.{Message}
 use Rattle.syn_parse.specs.Parses.{read_group}
 use Rattle.syn_replay.specs.Commands as commands
-use Rattle.syn_replay.specs.Commands.{Action, Command, StreamRead, listed_to, looked, parsed, read_answer}
+use Rattle.syn_replay.specs.Commands.{Action, Command, StreamRead, listed_to, looked, parsed}
+use Rattle.syn_replay.specs.Commands.{read_answer}
 use Rattle.syn_replay.specs.Forks.{is_own, is_own_action, is_own_command, is_self_contained}
-use Rattle.syn_replay.specs.Forks.{on_fork}
-use Rattle.syn_replay.specs.Forks.{command_on_fork, answer_on_fork, line_on_fork}
+use Rattle.syn_replay.specs.Forks.{on_fork, command_on_fork, answer_on_fork, line_on_fork}
 use Rattle.syn_replay.specs.Forks.{IsFollowed, ForksFollowCommands}
 use Rattle.syn_replay.specs.Kinds.{Look, display, peek, peek_kind, read}
 use Rattle.syn_replay.specs.Reports as reports
-use Rattle.syn_replay.specs.Reports.{Answer, absent, done, missing, misused}
+use Rattle.syn_replay.specs.Reports.{Answer, absent, done, misused}
 use Rattle.syn_replay.specs.Session.Entering.{entered_by, entering_words}
-use Rattle.syn_replay.specs.Session.State.{Stream, StreamKind, outermost, content_of, a_fork, AllStreams}
-use Rattle.syn_replay.specs.Session.State.{with_stream, moved_to, moved_on, recording, spent_if}
-use Rattle.syn_replay.specs.Session.State.{recording_on_parent, reported, gathered, left_inside}
-use Rattle.syn_replay.specs.Session.State.{left_from, stream_ended, content_closed, moved_to_fork, is_content_of}
-use Rattle.syn_replay.specs.Session.State.{is_entered_from, is_inside, is_or_inside, is_open_at}
-use Rattle.syn_replay.specs.Session.State.{first_state, kind_at, no_stream, printed_position, stream_at}
+use Rattle.syn_replay.specs.Session.State.{Stream, StreamKind, outermost, content_of, a_fork}
+use Rattle.syn_replay.specs.Session.State.{AllStreams, with_stream, moved_to, moved_on, recording}
+use Rattle.syn_replay.specs.Session.State.{spent_if, recording_on_parent, reported, gathered}
+use Rattle.syn_replay.specs.Session.State.{left_inside, left_from, stream_ended, content_closed}
+use Rattle.syn_replay.specs.Session.State.{moved_to_fork, is_content_of, is_entered_from, is_inside}
+use Rattle.syn_replay.specs.Session.State.{is_or_inside, is_open_at, first_state, kind_at}
+use Rattle.syn_replay.specs.Session.State.{no_stream, stream_at}
 use Rattle.syn_replay.specs.Session.Step.{Stepped, any_of, has_ended, is_content, is_unknown}
-use Rattle.syn_replay.specs.Session.Step.{kind_misuse, misuse, named_by, other_named}
-use Rattle.syn_replay.specs.Session.Step.{new_stream, into_group, on_stream, position_in, step}
-use Rattle.syn_replay.specs.Session.Step.{line, stream_position, unmoved, with_other}
+use Rattle.syn_replay.specs.Session.Step.{kind_misuse, misuse, named_by, other_named, new_stream}
+use Rattle.syn_replay.specs.Session.Step.{into_group, on_stream, position_in, step, line}
+use Rattle.syn_replay.specs.Session.Step.{with_other}
 use Rattle.syn_replay.specs.Session.Walk.{last_state, lines_from}
 use Rattle.syn_replay.specs.Turns.{ListOutcome, read_all, refused_at, turns, turns_left}
 use Rattle.syn_replay.specs.declared.report.Misuse.{Misuse}
-use Rattle.syn_replay.specs.declared.report.Misuse.TheVariants.{NoContent, OutOfScope}
-use Rattle.syn_replay.proofs.Walk.Changes.{kept_by, kinds_changed, open_within, same_length, there}
-use Rattle.syn_replay.proofs.Walk.Closing.{may_advance}
-use Rattle.syn_replay.proofs.Walk.Ends.{kind_if, kinds_from}
+use Rattle.syn_replay.proofs.Walk.Changes.{kept_by, kinds_changed, open_within, there}
+use Rattle.syn_replay.proofs.Walk.Ends.{kind_if, ended_length}
 use Rattle.syn_replay.proofs.Walk.Inner.{IsSound, above_all, by_parent, ended_look, not_inside}
-use Rattle.syn_replay.proofs.Walk.Inner.{sound_like}
+use Rattle.syn_replay.proofs.Walk.Inner.{sound_like, ended_before}
 use Rattle.syn_replay.proofs.Walk.Left.{assoc_or, left_beyond, left_none, or_none}
 use Rattle.syn_replay.proofs.Walk.Misuse.{misused_or}
-use Rattle.syn_replay.proofs.Walk.Nesting.{recording_kinds, recording_open}
 use Rattle.syn_replay.proofs.Walk.Steps.{first_sound, nothing, run_sound, steps}
+use Rattle.std.proofs.lemmas.Grind.{get_or-set_at}
+use Rattle.syn_replay.proofs.Walk.Nesting.{recording_sound}
 
 -- a read makes no stream, so its answer names none
 taken_unchanged : (answers : List Tree → Answer)
@@ -64,34 +63,25 @@ taken_unchanged : (answers : List Tree → Answer)
 taken_unchanged answers same words p None = refl
 taken_unchanged answers same words p (Some r) = same r.0
 
-optional_unchanged : (b : Bool) (x : Answer × Place) (p : Place) → answer_on_fork x.0 ≡ x.0
-    → answer_on_fork (cond b x (absent, p)).0 ≡ (cond b x (absent, p)).0
-optional_unchanged true x p e = e
-optional_unchanged false x p e = refl
-
 listed_unchanged : (o : ListOutcome) → answer_on_fork (listed_to o).0 ≡ (listed_to o).0
 listed_unchanged (read_all parts p) = refl
 listed_unchanged (refused_at r p) = refl
-
-found_unchanged : (b : Bool) (n : ℕ) (a : Answer) → answer_on_fork a ≡ a
-    → answer_on_fork (cond b (reports.found n) a) ≡ cond b (reports.found n) a
-found_unchanged true n a e = refl
-found_unchanged false n a e = e
 
 looked_unchanged : (n : ℕ) (ls : List Look) (missed : List (List ℕ)) (p : Place) (scope : Span)
     → answer_on_fork (looked n ls missed p scope) ≡ looked n ls missed p scope
 looked_unchanged n [] missed p scope = refl
 looked_unchanged n (l ∷ ls) missed p scope =
-    found_unchanged (peek l p) n (looked (n + 1) ls (missed ++ display l ∷ []) p scope)
-    (looked_unchanged (n + 1) ls (missed ++ display l ∷ []) p scope)
+    cond_both (peek l p) (reports.found n) _ (λ a. answer_on_fork a ≡ a) (λ e. refl)
+    (λ e. looked_unchanged (n + 1) ls (missed ++ display l ∷ []) p scope)
 
 read_unchanged : (r : StreamRead) (p : Place) (scope : Span)
     → answer_on_fork (read_answer r p scope).0 ≡ (read_answer r p scope).0
 read_unchanged (commands.parse kind) p scope =
     taken_unchanged _ (λ ts. refl) _ p (read kind p)
 read_unchanged (commands.optional kind) p scope =
-    optional_unchanged (peek_kind kind p) (parsed kind p scope) p
-    (taken_unchanged _ (λ ts. refl) _ p (read kind p))
+    cond_both (peek_kind kind p) (parsed kind p scope) (absent, p)
+    (λ x. answer_on_fork x.0 ≡ x.0)
+    (λ e. taken_unchanged _ (λ ts. refl) _ p (read kind p)) (λ e. refl)
 read_unchanged (commands.list rule kind separator) p scope =
     listed_unchanged (turns kind separator scope rule (turns_left p) p)
 read_unchanged (commands.lookahead ls) p scope = looked_unchanged 0 ls [] p scope
@@ -156,9 +146,7 @@ module _ (front : AllStreams) (k : ℕ) (is_open : is_open_at front k ≡ true) 
   on_stream_is = ap (λ b. cond b made (k + 1)) (eq-eqb k k refl)
 
   on_later : (j : ℕ) → made ≤ j → on j ≡ j + 1
-  on_later j h =
-      ap (λ b. cond b made (j + 1)) (ne_eqb j k (λ q. let low = k_below in
-      omega (arith, h, low, q)))
+  on_later j h = let low = k_below in grind arith
 
   -- streams of one number, which differ in their kinds and leftovers alone
   record Alike (s t : Stream) : Type 0 where
@@ -168,34 +156,19 @@ module _ (front : AllStreams) (k : ℕ) (is_open : is_open_at front k ≡ true) 
 
   streams_alike : (x y : AllStreams) (j : ℕ) → Simulates x y → Own j
       → Alike (stream_at x j) (stream_at y (on j))
-  streams_alike x y j b (stream e) = record {
-    kind = a_fork;
-    recorded = b.n;
-    is =
-        ap (λ z. stream_at y (on z)) e ∙ ap (stream_at y) on_stream_is ∙ b.forks
-        ∙ sym (ap (λ (s : Stream). record s { kind = a_fork; recorded = b.n })
-        (ap (stream_at x) e ∙ b.mine));
-  }
+  streams_alike x y j b (stream e) =
+      let at = on_stream_is in record { kind = a_fork; recorded = b.n; is = cc }
   streams_alike x y j b (later h) = record {
     kind = kind_on (kind_at x j);
     recorded = (stream_at x j).recorded;
-    is = ap (stream_at y) (on_later j h) ∙ b.later j h;
+    is = rw (on_later j h) (b.later j h);
   }
 
   unknown_alike : (x y : AllStreams) (j : ℕ) → Simulates x y → Own j
       → is_unknown x j ≡ is_unknown y (on j)
   unknown_alike x y j b (stream e) =
-      let low = k_below in
-      lt-leb (length x) j (omega (arith, e, low, b.room))
-      ∙ sym (ap (nat_le (length y)) (ap on e ∙ on_stream_is)
-      ∙ lt-leb (length y) made (omega (arith, b.longer, b.room)))
-  unknown_alike x y j b (later h) =
-      let same : nat_le (length x) j ≡ nat_le (length y) (j + 1) = grind (arith, b.longer) in
-      same ∙ sym (ap (nat_le (length y)) (on_later j h))
-
-  simulates_eq : (x y u v : AllStreams) → x ≡ u → y ≡ v → Simulates u v → Simulates x y
-  simulates_eq x y u v e f b =
-      subst (λ z. Simulates z y) (sym e) (subst (λ z. Simulates u z) (sym f) b)
+      let low = k_below in let at = on_stream_is in grind (arith, b.longer, b.room)
+  unknown_alike x y j b (later h) = let at = on_later j h in grind (arith, b.longer)
 
   -- the stream and the fork are changed
   changed_own : (x y : AllStreams) (b : Simulates x y) (f : Stream → Stream) (q : Place)
@@ -205,59 +178,39 @@ module _ (front : AllStreams) (k : ℕ) (is_open : is_open_at front k ≡ true) 
       → Simulates (with_stream x k f) (with_stream y made f)
   changed_own x y b f q m e g same =
       let low = k_below in
-      let u = f (stream_at x k) in
-      let v = f (stream_at y made) in
       record {
         p = q;
         n = m;
-        longer = omega (arith, length-set x k u, length-set y made v, b.longer);
-        room = omega (arith, length-set x k u, b.room);
-        mine = get_or-set_same x k u no_stream (omega (arith, low, b.room)) ∙ ap f b.mine ∙ e;
-        forks =
-            get_or-set_same y made v no_stream (omega (arith, b.longer, b.room)) ∙ ap f b.forks ∙ g;
-        kept = get_or-set_other y made k v no_stream (λ w. omega (arith, low, w)) ∙ b.kept;
-        later = λ j h.
-            get_or-set_other y made (j + 1) v no_stream (λ w. omega (arith, h, w)) ∙ b.later j h
-            ∙ ap shift_kind
-            (sym (get_or-set_other x k j u no_stream (λ w. omega (arith, h, low, w))));
-        own = λ j h. subst OwnKind (sym (kept_by (λ s. s.kind) f same x k j)) (b.own j h);
+        longer = omega (arith, length-set {A = Stream}, b.longer);
+        room = omega (arith, length-set {A = Stream}, b.room);
+        mine = grind (arith, places, get_or-set_at, b.room, b.mine);
+        forks = grind (arith, places, get_or-set_at, b.room, b.longer, b.forks);
+        kept = grind (arith, places, b.kept);
+        later = λ j h. let more = b.later j h in grind (arith, places);
+        own = λ j h. rw (kept_by (λ s. s.kind) f same x k j, OwnKind) (b.own j h);
       }
 
   -- a stream that was made is changed, but for its kind
   changed_later : (x y : AllStreams) → Simulates x y → (i : ℕ) → made ≤ i → (f : Stream → Stream)
       → ((s : Stream) → shift_kind (f s) ≡ f (shift_kind s)) → ((s : Stream) → (f s).kind ≡ s.kind)
       → Simulates (with_stream x i f) (with_stream y (i + 1) f)
-  changed_later x y b i le f shifts same = go (cases_lt i (length x)) where
-    go : (i < length x) ⊎ (length x ≤ i) → Simulates (with_stream x i f) (with_stream y (i + 1) f)
-    go (inr l) =
-        simulates_eq _ _ _ _ (set_past x i (f (stream_at x i)) l)
-        (set_past y (i + 1) (f (stream_at y (i + 1))) (omega (arith, l, b.longer))) b
-    go (inl l) =
-        let low = k_below in
-        let u = f (stream_at x i) in
-        let v = f (stream_at y (i + 1)) in
-        record {
-          p = b.p;
-          n = b.n;
-          longer = omega (arith, length-set x i u, length-set y (i + 1) v, b.longer);
-          room = omega (arith, length-set x i u, b.room);
-          mine = get_or-set_other x i k u no_stream (λ w. omega (arith, le, low, w)) ∙ b.mine;
-          forks = get_or-set_other y (i + 1) made v no_stream (λ w. omega (arith, le, w)) ∙ b.forks;
-          kept = get_or-set_other y (i + 1) k v no_stream (λ w. omega (arith, le, low, w)) ∙ b.kept;
-          later = λ j h.
-              elim (cases_eq j i) [
-                | inl e ↦
-                    ap (λ z. stream_at (with_stream y (i + 1) f) (z + 1)) e
-                    ∙ get_or-set_same y (i + 1) v no_stream (omega (arith, l, b.longer))
-                    ∙ ap f (b.later i le) ∙ sym (shifts (stream_at x i))
-                    ∙ ap shift_kind (sym (ap (stream_at (with_stream x i f)) e
-                    ∙ get_or-set_same x i u no_stream l))
-                | inr d ↦
-                    get_or-set_other y (i + 1) (j + 1) v no_stream (λ w. d (omega (arith, w)))
-                    ∙ b.later j h ∙ ap shift_kind (sym (get_or-set_other x i j u no_stream d))
-              ];
-          own = λ j h. subst OwnKind (sym (kept_by (λ s. s.kind) f same x i j)) (b.own j h);
-        }
+  changed_later x y b i le f shifts same =
+      let low = k_below in
+      record {
+        p = b.p;
+        n = b.n;
+        longer = omega (arith, length-set {A = Stream}, b.longer);
+        room = omega (arith, length-set {A = Stream}, b.room);
+        mine = grind (arith, places, b.mine);
+        forks = grind (arith, places, b.forks);
+        kept = grind (arith, places, b.kept);
+        later = λ j h.
+            let there = b.later i le in
+            let more = b.later j h in
+            let longer = b.longer in
+            grind (arith, places, get_or-set_at, set_past);
+        own = λ j h. rw (kept_by (λ s. s.kind) f same x i j, OwnKind) (b.own j h);
+      }
 
   changed_simulates : (x y : AllStreams) (b : Simulates x y) (j : ℕ) → Own j → (f : Stream → Stream)
       (q : Place) (m : Option Leftover)
@@ -265,12 +218,9 @@ module _ (front : AllStreams) (k : ℕ) (is_open : is_open_at front k ≡ true) 
       → ((s : Stream) → shift_kind (f s) ≡ f (shift_kind s)) → ((s : Stream) → (f s).kind ≡ s.kind)
       → Simulates (with_stream x j f) (with_stream y (on j) f)
   changed_simulates x y b j (stream w) f q m e g shifts same =
-      simulates_eq _ _ _ _ (ap (λ z. with_stream x z f) w)
-      (ap (λ z. with_stream y (on z) f) w ∙ ap (λ z. with_stream y z f) on_stream_is)
-      (changed_own x y b f q m e g same)
+      rw (w, on_stream_is) (changed_own x y b f q m e g same)
   changed_simulates x y b j (later h) f q m e g shifts same =
-      simulates_eq _ _ _ _ refl (ap (λ z. with_stream y z f) (on_later j h))
-      (changed_later x y b j h f shifts same)
+      rw (on_later j h) (changed_later x y b j h f shifts same)
 
   moved_simulates : (x y : AllStreams) (j : ℕ) (q : Place) → Simulates x y → Own j
       → Simulates (with_stream x j (moved_to q)) (with_stream y (on j) (moved_to q))
@@ -296,19 +246,15 @@ module _ (front : AllStreams) (k : ℕ) (is_open : is_open_at front k ≡ true) 
         n = b.n;
         longer = omega (arith, length-append x us, length-append y vs, b.longer);
         room = omega (arith, length-append x us, b.room);
-        mine = get_or-append x us no_stream k (omega (arith, low, b.room)) ∙ b.mine;
-        forks = get_or-append y vs no_stream made (omega (arith, b.longer, b.room)) ∙ b.forks;
-        kept = get_or-append y vs no_stream k (omega (arith, low, b.longer, b.room)) ∙ b.kept;
+        mine = grind (arith, places, b.room, b.mine);
+        forks = grind (arith, places, b.longer, b.room, b.forks);
+        kept = grind (arith, places, b.longer, b.room, b.kept);
         later = λ j le.
+            let more = b.later j le in
+            let longer = b.longer in
             elim (cases_lt j (length x)) [
-              | inl l ↦
-                  get_or-append y vs no_stream (j + 1) (omega (arith, l, b.longer)) ∙ b.later j le
-                  ∙ ap shift_kind (sym (get_or-append x us no_stream j l))
-              | inr l ↦
-                  let same : j + 1 - length y ≡ j - length x = omega (arith, l, b.longer) in
-                  get_or-append_right y vs (j + 1) no_stream (omega (arith, l, b.longer))
-                  ∙ ap (stream_at vs) same ∙ one (j - length x)
-                  ∙ ap shift_kind (sym (get_or-append_right x us j no_stream l))
+              | inl l ↦ grind (arith, places)
+              | inr l ↦ let last = one (j - length x) in grind (arith, places)
             ];
         own = λ j le.
             elim (cases_lt j (length x)) [
@@ -362,11 +308,13 @@ module _ (front : AllStreams) (k : ℕ) (is_open : is_open_at front k ≡ true) 
   same_parent : (q j : ℕ) → Own q → Own j → (on q == on j) ≡ (q == j)
   same_parent q j a b = search rules
 
-  content_test : (j : ℕ) → Own j → (kind : StreamKind) → OwnKind kind
-      → is_content_of (on j) (kind_on kind) ≡ is_content_of j kind
-  content_test j own outermost h = refl
-  content_test j own (content_of q) h = same_parent q j (own_by_test q h) own
-  content_test j own a_fork h = refl
+  -- a test of parents, and the same test on the other side
+  entered_on : (F G : ℕ → Bool) (kind : StreamKind) → OwnKind kind
+      → ((p : ℕ) → kind ≡ content_of p → Own p → G (on p) ≡ F p)
+      → is_entered_from G (kind_on kind) ≡ is_entered_from F kind
+  entered_on F G outermost h e = refl
+  entered_on F G (content_of p) h e = e p refl (own_by_test p h)
+  entered_on F G a_fork h e = refl
 
   -- what is left inside a stream that was made, and inside the stream
   left_on : (xs : AllStreams) (j n : ℕ) → Own j → made ≤ n
@@ -376,37 +324,28 @@ module _ (front : AllStreams) (k : ℕ) (is_open : is_open_at front k ≡ true) 
   left_on (s ∷ xs) j n own le kinds =
       let next : made ≤ n + 1 = omega (arith, le) in
       let more : (m : ℕ) → OwnKind (kind_at xs m) = λ m. kinds (suc m) in
-      ap₂ (λ (f : Option Leftover → Option Leftover) z. f z)
-      (ap₂ (λ b z rest. option_or
-      (cond (s.is_open && b) (option_or (option_or s.recorded z) (leftover s.place)) None) rest)
-      (content_test j own s.kind (kinds 0))
-      (ap (λ z. left_from z ((n + 1) + 1) (map shift_kind xs)) (sym (on_later n le))
-      ∙ left_on xs n (n + 1) (later le) next more))
-      (left_on xs j (n + 1) own next more)
+      let test : is_content_of (on j) (kind_on s.kind) ≡ is_content_of j s.kind =
+      entered_on _ _ s.kind (kinds 0) (λ p e q. same_parent p j q own) in
+      let at = on_later n le in
+      let inside = left_on xs n (n + 1) (later le) next more in
+      let beside = left_on xs j (n + 1) own next more in
+      cc
 
   next_same : (p i : ℕ) → (p + 1 == i + 1) ≡ (p == i)
   next_same p i = grind arith
 
   shifts : (c : Bool) (s : Stream) → spent_if c (shift_kind s) ≡ shift_kind (spent_if c s)
-  shifts true s = refl
-  shifts false s = refl
+  shifts c s = grind arith
 
   module _ (x y : AllStreams) (b : Simulates x y) (x_sound : IsSound x) (y_sound : IsSound y) where
     later_on : drop (made + 1) y ≡ map shift_kind (drop made x)
     later_on =
         ext_get_or no_stream _ _
-        (omega (
-          arith,
-          length-drop (made + 1) y,
-          length-drop made x,
-          length-map (drop made x) shift_kind,
-          b.longer,
-        )) (λ i _.
-        let same : (made + 1) + i ≡ (made + i) + 1 = omega arith in
-        get_or-drop (made + 1) y i no_stream ∙ ap (stream_at y) same
-        ∙ b.later (made + i) (omega arith)
-        ∙ ap shift_kind (sym (get_or-drop made x i no_stream))
-        ∙ sym (get_or-map shift_kind (drop made x) i no_stream))
+        (omega (arith, length-drop {A = Stream}, length-map {A = Stream} {B = Stream}, b.longer))
+        (λ i _.
+        let there = b.later (made + i) (omega arith) in
+        let mapped = get_or-map shift_kind (drop made x) i no_stream in
+        grind (arith, places))
 
     own_later : (m : ℕ) → OwnKind (kind_at (drop made x) m)
     own_later m =
@@ -436,62 +375,50 @@ module _ (front : AllStreams) (k : ℕ) (is_open : is_open_at front k ≡ true) 
         (left_made i le)
 
     -- a stream is inside another where it is on the other side
-    in_parent : (i j : ℕ) → made ≤ i → made ≤ j → (kind : StreamKind) → OwnKind kind
-        → ((p : ℕ) → kind ≡ content_of p → made ≤ p
-        → is_inside y (i + 1) (p + 1) ≡ is_inside x i p)
-        → is_entered_from (is_or_inside y (i + 1)) (kind_on kind)
-        ≡ is_entered_from (is_or_inside x i) kind
-    in_parent i j le lj outermost own again = refl
-    in_parent i j le lj a_fork own again = refl
-    in_parent i j le lj (content_of p) own again =
-        let low = k_below in
-        elim (own_by_test p own) [
-          | stream e ↦
-              ap (is_or_inside y (i + 1)) (ap on e ∙ on_stream_is)
-              ∙ not_inside y y_sound.nested (i + 1) made (omega arith)
-              ∙ sym (ap (is_or_inside x i) e ∙ not_inside x x_sound.nested i k (omega arith))
-          | later lp ↦
-              ap (is_or_inside y (i + 1)) (on_later p lp)
-              ∙ ap₂ (λ c d. c || d) (next_same p i) (again p refl lp)
-        ]
-
     inside_on : (room i j : ℕ) → made ≤ i → made ≤ j → j ≤ room
         → is_inside y (i + 1) (j + 1) ≡ is_inside x i j
     inside_on zero i j le lj h = let low = k_below in absurd (omega arith)
     inside_on (suc room) i j le lj h =
         by_parent y y_sound.nested (i + 1) (j + 1)
         ∙ ap (is_entered_from (is_or_inside y (i + 1))) (ap (λ s. s.kind) (b.later j lj))
-        ∙ in_parent i j le lj (kind_at x j) (b.own j lj)
-        (λ p e lp. let b = x_sound.nested j p e in inside_on room i p le lp (omega arith))
+        ∙ entered_on _ _ (kind_at x j) (b.own j lj) (λ p e own. elim own [
+          | stream q ↦
+              let low = k_below in
+              let at = on_stream_is in
+              let out = not_inside y y_sound.nested (i + 1) made (omega arith) in
+              let also = not_inside x x_sound.nested i k (omega arith) in
+              cc
+          | later lp ↦
+              let below = x_sound.nested j p e in
+              let at = on_later p lp in
+              let same = next_same p i in
+              let again = inside_on room i p le lp (omega arith) in
+              cc
+        ])
         ∙ sym (by_parent x x_sound.nested i j)
 
     -- a stream that was made ends on both sides
     ends_made : (i : ℕ) → made ≤ i → Simulates (stream_ended i x) (stream_ended (i + 1) y)
     ends_made i le =
         let low = k_below in
-        let len = same_length (stream_ended i x) x (kinds_from (λ n. n == i) 0 x) in
-        let other = same_length (stream_ended (i + 1) y) y (kinds_from (λ n. n == i + 1) 0 y) in
+        let len = ended_length (λ n. n == i) x in
+        let other = ended_length (λ n. n == i + 1) y in
         record {
           p = b.p;
           n = b.n;
           longer = omega (arith, len, other, b.longer);
           room = omega (arith, len, b.room);
-          mine =
-              ended_look x x_sound i k
-              ∙ ap₂ spent_if (not_inside x x_sound.nested i k (omega arith)) b.mine;
-          forks =
-              ended_look y y_sound (i + 1) made
-              ∙ ap₂ spent_if (not_inside y y_sound.nested (i + 1) made (omega arith)) b.forks;
-          kept =
-              ended_look y y_sound (i + 1) k
-              ∙ ap₂ spent_if (not_inside y y_sound.nested (i + 1) k (omega arith)) b.kept;
+          mine = ended_before x x_sound i k (omega arith) ∙ b.mine;
+          forks = ended_before y y_sound (i + 1) made (omega arith) ∙ b.forks;
+          kept = ended_before y y_sound (i + 1) k (omega arith) ∙ b.kept;
           later = λ j lj.
-              ended_look y y_sound (i + 1) (j + 1)
-              ∙ ap₂ spent_if
-              (ap₂ (λ c d. c || d) (next_same j i) (inside_on j i j le lj (omega arith)))
-              (b.later j lj)
-              ∙ shifts (is_or_inside x i j) (stream_at x j)
-              ∙ ap shift_kind (sym (ended_look x x_sound i j));
+              let is = ended_look x x_sound i j in
+              let also = ended_look y y_sound (i + 1) (j + 1) in
+              let same = next_same j i in
+              let inside = inside_on j i j le lj (omega arith) in
+              let there = b.later j lj in
+              let shifted = shifts (is_or_inside x i j) (stream_at x j) in
+              cc;
           own = λ j lj.
               subst OwnKind (sym (ap (λ s. s.kind) (ended_look x x_sound i j)
               ∙ kind_if (is_or_inside x i j) (stream_at x j))) (b.own j lj);
@@ -503,27 +430,23 @@ module _ (front : AllStreams) (k : ℕ) (is_open : is_open_at front k ≡ true) 
   closes_made i x y le sx sy b =
       let kind = kind_at x i in
       let given = reported x i in
-      let u = recording_on_parent kind given x in
-      let v = recording_on_parent (kind_on kind) given y in
-      simulates_eq _ _ _ _ refl
-      (ap (λ z. content_closed z y) (on_later i le)
-      ∙ ap₂ (λ kd l. stream_ended (i + 1) (recording_on_parent kd l y))
-      (ap (λ s. s.kind) (b.later i le)) (reported_made x y b sx sy i le))
-      (ends_made u v (parents x y kind given (b.own i le) b)
-      (sound_like x u sx (recording_kinds kind given x) (recording_open kind given x))
-      (sound_like y v sy (recording_kinds (kind_on kind) given y)
-      (recording_open (kind_on kind) given y))
-      i le)
+      let is : content_closed (i + 1) y
+      ≡ stream_ended (i + 1) (recording_on_parent (kind_on kind) given y) =
+      ap₂ (λ (s : Stream) l. stream_ended (i + 1) (recording_on_parent s.kind l y)) (b.later i le)
+      (reported_made x y b sx sy i le) in
+      rw (on_later i le, is)
+      (ends_made _ _ (parents x y kind given (b.own i le) b) (recording_sound kind given x sx)
+      (recording_sound (kind_on kind) given y sy) i le)
 
   -- a command that names one stream
   record Follows (c d : Command) (x y : AllStreams) : Type 0 where
     same_line : line_on_fork (line c x) ≡ line d y
     after : Simulates (step c x).state (step d y).state
 
-  same_chosen : (x y : AllStreams) → Simulates x y → (v : Option Misuse) (r q : Stepped) → Same r q
-      → Same (misused_or x v r) (misused_or y v q)
-  same_chosen x y b None r q h = h
-  same_chosen x y b (Some n) r q h = record { answer = refl; after = b }
+  same_chosen : (x y : AllStreams) → Simulates x y → (v w : Option Misuse) (r q : Stepped) → v ≡ w
+      → Same r q → Same (misused_or x v r) (misused_or y w q)
+  same_chosen x y b None w r q e h = rw (← e) h
+  same_chosen x y b (Some n) w r q e h = rw (← e) (record { answer = refl; after = b })
 
   -- the same is done on a stream, whatever its kind and leftover
   abbrev DoesSame : Action → (x y : AllStreams) → ℕ → Type 0
@@ -547,43 +470,30 @@ module _ (front : AllStreams) (k : ℕ) (is_open : is_open_at front k ≡ true) 
       let same_spent : has_ended x j ≡ has_ended y (on j) = ap (λ z. not z.is_open) (sym s.is) in
       let absent : any_of (is_unknown x) (named_by c) ≡ any_of (is_unknown y) (named_by d) = cc in
       let misused : misuse c x ≡ misuse d y = cc in
-      let done_y = on_stream a y (on j) (stream_at y (on j)) in
-      let is_d : step d y ≡ misused_or y (misuse c x) done_y =
-      ap (λ z. misused_or y z done_y) (sym misused) in
-      let whole : Same (step c x) (misused_or y (misuse c x) done_y) =
-      same_chosen x y b (misuse c x) _ _
-      (subst (λ z. Same (on_stream a x j (stream_at x j)) (on_stream a y (on j) z)) (sym s.is)
-      (same (stream_at x j) s.kind s.recorded)) in
-      let after : Simulates (step c x).state (step d y).state =
-      simulates_eq _ _ _ _ refl (ap (λ z. z.state) is_d) whole.after in
-      let answers : answer_on_fork (step c x).answer ≡ (step d y).answer =
-      whole.answer ∙ sym (ap (λ z. z.answer) is_d) in
-      let t = streams_alike (step c x).state (step d y).state j after own in
-      let places :
-      stream_position (step c x).state j ≡ stream_position (step d y).state (on j) =
-      ap₂ (λ c p. cond c missing (printed_position p))
-      (unknown_alike (step c x).state (step d y).state j after own)
-      (ap (λ z. z.place) (sym t.is)) in
+      let whole : Same (step c x) (step d y) =
+      same_chosen x y b (misuse c x) (misuse d y) _ _ misused
+      (rw s.is (same (stream_at x j) s.kind s.recorded)) in
+      let t = streams_alike (step c x).state (step d y).state j whole.after own in
+      let there = unknown_alike (step c x).state (step d y).state j whole.after own in
+      let place : (stream_at (step d y).state (on j)).place ≡ (stream_at (step c x).state j).place =
+      ap (λ z. z.place) t.is in
       let positions : position_in c x (step c x).state ≡ position_in d y (step d y).state = cc in
       record {
-        same_line = ap₂ (λ z w. record { answer = z; position = w }) answers positions;
-        after = after;
+        same_line = ap₂ (λ z w. record { answer = z; position = w }) whole.answer positions;
+        after = whole.after;
       }
 
   content_on : (kind : StreamKind) → is_content kind ≡ is_content (kind_on kind)
-  content_on outermost = refl
-  content_on (content_of q) = refl
-  content_on a_fork = refl
+  content_on kind = grind arith
 
   follow_close : (x y : AllStreams) (b : Simulates x y) → IsSound x → IsSound y → (n : ℕ)
       → (n == k) ≡ false → Own n
       → Follows (commands.on n commands.close) (commands.on (on n) commands.close) x y
   follow_close x y b sx sy n ne (stream e) = absurd (let q : (n == k) ≡ true = eq-eqb n k e in cc)
   follow_close x y b sx sy n ne (later le) =
-      follow x y b n (later le) commands.close refl
-      (ap (λ z. cond z None (Some NoContent))
-      (content_on (kind_at x n)
-      ∙ sym (ap is_content (ap (kind_at y) (on_later n le) ∙ ap (λ s. s.kind) (b.later n le)))))
+      let kind : kind_at y (on n) ≡ kind_on (kind_at x n) =
+      rw (on_later n le) (ap (λ s. s.kind) (b.later n le)) in
+      follow x y b n (later le) commands.close refl (rw (kind, ← content_on (kind_at x n)))
       (λ s kind recorded. record { answer = refl; after = closes_made n x y le sx sy b })
 
   follows_action : (a : Action) (n : ℕ) (x y : AllStreams) → Simulates x y → IsSound x → IsSound y
@@ -648,53 +558,39 @@ module _ (front : AllStreams) (k : ℕ) (is_open : is_open_at front k ≡ true) 
 
   begins : Simulates front (front ++ new_stream s0.place s0.scope_span a_fork ∷ [])
   begins =
-      let new = new_stream s0.place s0.scope_span a_fork in
-      let more = length-append front (new ∷ []) in
+      let low = k_below in
+      let more = length-append front (new_stream s0.place s0.scope_span a_fork ∷ []) in
       record {
         p = s0.place;
         n = None;
         longer = omega (arith, more);
         room = omega arith;
         mine = ap (λ z. record s0 { recorded = z }) (sym (or_none s0.recorded));
-        forks =
-            get_or-append_seam front new [] no_stream
-            ∙ ap (λ z. record (fork_at s0.place None) { is_open = z }) (sym is_open);
-        kept = get_or-append front (new ∷ []) no_stream k k_below;
-        later = λ j h.
-            get_or_past (front ++ new ∷ []) (j + 1) no_stream (omega (arith, h, more))
-            ∙ sym (ap shift_kind (get_or_past front j no_stream h));
+        forks = grind (arith, places);
+        kept = grind (arith, places);
+        later = λ j h. grind (arith, places, get_or_past);
         own = λ j h. rw (get_or_past front j no_stream h, OwnKind) tt;
       }
 
-  forks_is : step (commands.on k commands.fork) front ≡ on_stream commands.fork front k s0
-  forks_is = let known : is_unknown front k ≡ false = lt-leb made k k_below in cc
-
   starts : Simulates front (step (commands.on k commands.fork) front).state
-  starts = simulates_eq _ _ _ _ refl (ap (λ z. z.state) forks_is) begins
+  starts =
+      let known : is_unknown front k ≡ false = lt-leb made k k_below in
+      let is : step (commands.on k commands.fork) front ≡ on_stream commands.fork front k s0 = cc in
+      rw is begins
 
   module _ (x y : AllStreams) (b : Simulates x y) (x_sound : IsSound x) (y_sound : IsSound y) where
-    advances : step (commands.on k to_fork) y
-        ≡ cond (may_advance y k made) (record { answer = done; state = moved_to_fork k made y })
-        (unmoved y (misused OutOfScope))
-    advances =
-        let low = k_below in
-        let there : is_unknown y k ≡ false =
-        lt-leb (length y) k (omega (arith, low, b.longer, b.room)) in
-        let known : is_unknown y made ≡ false =
-        lt-leb (length y) made (omega (arith, b.longer, b.room)) in
-        let open_now : is_open_at y k ≡ true = ap (λ s. s.is_open) b.kept ∙ is_open in
-        let fork_open : is_open_at y made ≡ true = ap (λ s. s.is_open) b.forks ∙ is_open in
-        let fork : kind_at y made ≡ a_fork = ap (λ s. s.kind) b.forks in
-        cc
-
     ends : same_scope (stream_at y k).place (stream_at y made).place ≡ true
         → step (commands.on k to_fork) y
         ≡ record { answer = done; state = moved_to_fork k made y }
     ends h =
-        advances
-        ∙ ap (λ c. cond c (record { answer = done; state = moved_to_fork k made y })
-        (unmoved y (misused OutOfScope)))
-        (and_from _ _ h (ap not (not_inside y y_sound.nested made k k_below)))
+        let low = k_below in
+        let there : is_unknown y k ≡ false = grind (arith, b.longer, b.room) in
+        let known : is_unknown y made ≡ false = grind (arith, b.longer, b.room) in
+        let open_now : is_open_at y k ≡ true = ap (λ s. s.is_open) b.kept ∙ is_open in
+        let fork_open : is_open_at y made ≡ true = ap (λ s. s.is_open) b.forks ∙ is_open in
+        let fork : kind_at y made ≡ a_fork = ap (λ s. s.kind) b.forks in
+        let outside = not_inside y y_sound.nested made k low in
+        cc
 
     abbrev left : Option Leftover
     left = left_from k made (drop made x)
@@ -707,24 +603,19 @@ module _ (front : AllStreams) (k : ℕ) (is_open : is_open_at front k ≡ true) 
         let mid_sound =
         sound_like y mid y_sound (kinds_changed y k goes (λ s. refl))
         (kept_by (λ s. s.is_open) goes (λ s. refl) y k) in
-        let same : stream_at (moved_to_fork k made y) k ≡ recording left (stream_at x k) =
-        ended_look mid mid_sound made k
-        ∙ ap₂ spent_if (not_inside mid mid_sound.nested made k k_below)
-        (get_or-set_same y k (goes (stream_at y k)) no_stream
-        (omega (arith, low, b.longer, b.room)))
-        ∙ ap₂ (λ f s. moved_on (recording (left_inside y made) f) s) b.forks b.kept
-        ∙ ap (λ z. record s0 { place = b.p; recorded = z })
-        (ap (λ z. option_or s0.recorded (option_or b.n z)) (left_own x y b x_sound y_sound)
-        ∙ sym (assoc_or s0.recorded b.n left))
-        ∙ ap (recording left) (sym b.mine) in
+        let now = ended_before mid mid_sound made k low in
+        let moved =
+        get_or-set_same y k (goes (stream_at y k)) no_stream (omega (arith, b.longer, b.room)) in
+        let inside = left_own x y b x_sound y_sound in
+        let joined = assoc_or s0.recorded b.n left in
+        let same : stream_at (moved_to_fork k made y) k ≡ recording left (stream_at x k) = cc in
         let was_open : is_open_at x k ≡ true = ap (λ s. s.is_open) b.mine ∙ is_open in
-        there (moved_to_fork k made y) k (ap (λ s. s.is_open) same ∙ was_open)
-        ∙ ap (λ s. Some s) same
-        ∙ sym (ap (option_map (recording left)) (there x k was_open))
+        let was_there = there x k was_open in
+        let is_there = there (moved_to_fork k made y) k (ap (λ s. s.is_open) same ∙ was_open) in
+        cc
 
     with_none : (o : Option Stream) → option_map (recording None) o ≡ o
-    with_none None = refl
-    with_none (Some s) = ap (λ z. Some (record s { recorded = z })) (or_none s.recorded)
+    with_none o = grind (arith, or_none)
 
     none_left : ((n : ℕ) → nat_le made n ≡ true → kind_at x n ≡ content_of k
         → is_open_at x n ≡ false)
@@ -732,12 +623,10 @@ module _ (front : AllStreams) (k : ℕ) (is_open : is_open_at front k ≡ true) 
     none_left q =
         ap (λ l. option_map (recording l) (slice_get x k))
         (left_none (λ j. j ≡ k) k made (drop made x)
-        (λ m p o f e.
+        (λ i m p same o f e.
         let at = get_or-drop made x m no_stream in
-        absurd (both_ways (is_open_at x (made + m))
-        (q (made + m) (le-leb made (made + m) (omega arith))
-        (ap (λ s. s.kind) (sym at) ∙ f ∙ ap content_of e))
-        (ap (λ s. s.is_open) (sym at) ∙ o)))
+        let ended = q (made + m) (le-leb made (made + m) (omega arith)) (cc) in
+        absurd (cc))
         refl)
         ∙ with_none (slice_get x k)
 

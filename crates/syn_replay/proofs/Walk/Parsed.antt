@@ -1,5 +1,5 @@
 -- What a token that is parsed answers.
-use Rattle.std.proofs.Common.{◌≡◌, ◌∙◌, sym, ap, subst}
+use Rattle.std.proofs.Common.{◌≡◌, ◌∙◌, sym, ap}
 use Rattle.std.specs.Prelude.{Option, Err, List}
 use Rattle.std.specs.Global.{Vec}
 use Rattle.tok_core.specs.Forest.{Tree}
@@ -14,12 +14,11 @@ use Rattle.syn_replay.specs.Reports as reports
 use Rattle.syn_replay.specs.Kinds.{Kind, read, kind_missing}
 use Rattle.tok_buffer.specs.Messages.{first_message}
 use Rattle.syn_replay.specs.Meanings.{IsAnswer}
-use Rattle.syn_replay.specs.Session.Reading.{AfterPieces, GivesAnswer, IsErrorAnswer, LeavesAt}
-use Rattle.syn_replay.specs.Session.Reading.{ReadsPieces}
+use Rattle.syn_replay.specs.Session.Reading.{AfterPieces, GivesAnswer, LeavesAt, ReadsPieces}
 use Rattle.syn_replay.specs.Turns.{pieces_of}
 use Rattle.syn_replay.specs.declared.report.Answer.TheVariants as answer
 use Rattle.syn_replay.specs.declared.report.Piece.{Piece}
-use Rattle.syn_replay.proofs.Messages.{first_message-one, message_there}
+use Rattle.syn_replay.proofs.Messages.{message_there}
 
 module _ (kind : Kind) (s : parse.State) where
   abbrev pub parsed_by : Option (List Tree × Place) → reports.Answer × Place
@@ -35,16 +34,12 @@ module _ (kind : Kind) (s : parse.State) where
   error_parsed t (Memory e) h = (tt, tt)
   error_parsed t (Refused e) (none, is, left) =
       let made = is ∙ ap messages.one_message (message_there kind s) in
-      let same =
-      ap first_message made ∙ first_message-one (kind_missing kind (fresh s.place s.scope_span)) in
-      subst (λ x. IsErrorAnswer e (parsed_by x).0 × (t ≡ moved (parsed_by x).1 s)) (sym none)
-      ((ap reports.refused same, made ∙ ap messages.one_message (sym same)), left)
+      let same = ap first_message made in
+      rw none ((ap reports.refused same, made ∙ ap messages.one_message (sym same)), left)
 
   -- the pieces of trees that are read
   pub pieces_parsed : (t : parse.State) (ps : Vec Piece)
       → AfterPieces (read kind s.place) s ps t
       → IsAnswer (answer.Read ps) (parsed_by (read kind s.place)).0
       × (t ≡ moved (parsed_by (read kind s.place)).1 s)
-  pieces_parsed t ps (r, is, made, left) =
-      subst (λ x. IsAnswer (answer.Read ps) (parsed_by x).0 × (t ≡ moved (parsed_by x).1 s))
-      (sym is) ((ap reports.read made, tt), left)
+  pieces_parsed t ps (r, is, made, left) = rw is ((ap reports.read made, tt), left)

@@ -1,9 +1,10 @@
 -- The pieces of what was read.
 use Rattle.std.proofs.Common.{◌≡◌, ◌∙◌, sym, ap, subst, refl, ℕ, ◌<◌, ◌⊎◌, inl, inr, Bool, true}
-use Rattle.std.proofs.Common.{false, List, [], ◌∷◌, ◌++◌, length, map, arith, Option, Some, None}
+use Rattle.std.proofs.Common.{List, [], ◌∷◌, ◌++◌, length, map, arith, Option, Some, None}
 use Rattle.std.proofs.Common.{Ok, eqb-true}
 use Rattle.std.proofs.lemmas.Bool.{cond-true, eq-eqb, and_parts}
 use Rattle.std.proofs.lemmas.List.{append-nil, append_assoc, map-append}
+use Rattle.std.proofs.lemmas.Option.{cond_some}
 use Rattle.std.specs.Prelude.{◌==◌, not, cond, encode_utf8}
 use Rattle.std.specs.Global.{Vec}
 use Rattle.std.specs.Str.{chars}
@@ -85,12 +86,9 @@ taken_in : (wanted : Tree → Bool) (x : Option Tree) (p : Place) (r : List Tree
       | None ↦ None
     ] ≡ Some r → IsTaken wanted r.0
 taken_in wanted None p r e = cc
-taken_in wanted (Some t) p r e = go (wanted t) refl e where
-  go : (b : Bool) → wanted t ≡ b
-      → cond {A = Option (List Tree × Place)} b (Some (t ∷ [], p)) None ≡ Some r
-      → IsTaken wanted r.0
-  go true w h = record { one = t; is_wanted = w; whole = cc }
-  go false w h = cc
+taken_in wanted (Some t) p r e =
+    let (w, same) = cond_some (wanted t) (t ∷ [], p) r e in
+    record { one = t; is_wanted = w; whole = ap (λ z. z.0) (sym same) }
 
 wanted_is_taken : (wanted : Tree → Bool) (d : Place) (r : List Tree × Place)
     → reads.read_if wanted d ≡ Some r → IsTaken wanted r.0

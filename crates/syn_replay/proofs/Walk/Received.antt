@@ -1,26 +1,25 @@
 -- The lines of a walk, as a receiver has them: kept, written, or written in pairs.
-use Rattle.std.proofs.Common.{◌≡◌, ◌∙◌, ◌↔◌, ℕ, zero, suc, ◌+◌, ◌<◌, ◌≤◌, true, List, [], ◌∷◌, ◌++◌}
-use Rattle.std.proofs.Common.{Bool, false, length, drop, get_or, map, sym, ap, subst, refl}
-use Rattle.std.proofs.Common.{append_assoc, arith}
-use Rattle.std.proofs.Math.Seq.{drop-cons}
+use Rattle.std.proofs.Common.{◌≡◌, ◌∙◌, ◌↔◌, ℕ, ◌+◌, ◌<◌, ◌≤◌, true, List, [], ◌∷◌, ◌++◌, Bool}
+use Rattle.std.proofs.Common.{false, length, drop, get_or, map, sym, ap, subst, refl, append_assoc}
 use Rattle.std.proofs.Output.{has_written_append, writes_in_calls_nil}
 use Rattle.std.proofs.lemmas.Bool.{both_ways}
-use Rattle.std.proofs.lemmas.List.{append-nil, drop_all, map-append}
-use Rattle.std.proofs.lemmas.List.Elements.{All-append}
+use Rattle.std.proofs.lemmas.List.{append-nil, drop_all, drop_more, map-append}
+use Rattle.std.proofs.lemmas.List.Elements.{All-push}
 use Rattle.std.proofs.lemmas.Fmt.{contents_after_writes}
 use Rattle.std.specs.Fmt.{HasWritten, IsPlainFormatter, formatter_writer}
 use Rattle.std.specs.Global.{Vec}
 use Rattle.std.specs.declared.fmt.Formatter.{Formatter}
 use Rattle.tok_core.specs.Forest.{Forest}
-use Rattle.syn_replay.specs.Agree.{AnswersAgree, LinesAgree, ReportsAgree, VerdictsAgree}
+use Rattle.syn_replay.specs.Agree.{LinesAgree, ReportsAgree, VerdictsAgree}
 use Rattle.syn_replay.specs.Commands as commands
 use Rattle.syn_replay.specs.Commands.{command_of}
 use Rattle.syn_replay.specs.Meanings.{IsPlain, line_of, verdict_of}
+use Rattle.syn_replay.specs.Reports as reports
 use Rattle.syn_replay.specs.Reports.{Report}
 use Rattle.syn_replay.specs.ReportText.{as_line, line_text, lines_text, report_text, verdict_text}
 use Rattle.syn_replay.specs.Session.Receivers.{GoesOn, Keeps, Writes}
 use Rattle.syn_replay.specs.Session.State.{AllStreams, first_state}
-use Rattle.syn_replay.specs.Session.Step.{line, step}
+use Rattle.syn_replay.specs.Session.Step.{step}
 use Rattle.syn_replay.specs.Session.Promises.{ArePlain, AreReceived, IsLine}
 use Rattle.syn_replay.specs.Session.Streams.{state_of}
 use Rattle.syn_replay.specs.Session.Walk.{last_state, lines_from, verdict, walk}
@@ -44,23 +43,12 @@ module _ {R : Type 0} (receives : R → Command → Line → R → Type 0) (firs
         → Leads new next (i + 1)
     leads_on new next c d l h item (is, one, after) received =
         let rest = drop (i + 1) all in
-        let same : suc i ≡ i + 1 = omega arith in
         let ahead : drop i all ≡ c ∷ rest =
-        drop-cons all i d h ∙ ap (λ w. w ∷ drop (suc i) all) (sym item)
-        ∙ ap (λ n. c ∷ drop n all) same in
+        drop_more all i d h ∙ ap (λ w. w ∷ rest) (sym item) in
         record {
-          state =
-              ap (λ w. last_state w (map command_of rest)) after
-              ∙ ap (λ w. last_state st (map command_of w)) (sym ahead) ∙ leads.state;
+          state = let end = leads.state in cc;
           lines = λ last more.
-              leads.lines last (subst (λ cs. AreReceived receives st cs r last) (sym ahead) (
-                l,
-                next,
-                is,
-                one,
-                received,
-                subst (λ s. AreReceived receives s rest next last) after more,
-              ));
+              leads.lines last (rw ahead (l, next, is, one, received, rw (← after) more));
         }
 
     module _ (h : length all ≤ i) where
@@ -70,35 +58,24 @@ module _ {R : Type 0} (receives : R → Command → Line → R → Type 0) (firs
 
       pub leads_to_lines : AreReceived receives first all start r
       leads_to_lines =
-          leads.lines r
-          (subst (λ cs. AreReceived receives st cs r r) (sym (drop_all i all h)) refl)
+          leads.lines r (rw (drop_all i all h) refl)
 
 -- lines that are kept
-one_plain : (l : Line) → IsPlain l.answer → ArePlain (l ∷ [])
-one_plain l p zero d h = p
-one_plain l p (suc k) d h = absurd (omega arith)
-
 pub lines_kept : (st : AllStreams) (cs : List Command) (before after : Vec Line)
     → AreReceived Keeps st cs before after → ArePlain before.items
     → (map line_of after.items ≡ map line_of before.items ++ lines_from st (map command_of cs))
     × ArePlain after.items
-lines_kept st [] before after e plain = (
-  ap (λ v. map line_of v.items) e ∙ sym (append-nil (map line_of before.items)),
-  subst (λ v. ArePlain v.items) (sym e) plain,
-)
+lines_kept st [] before after e plain =
+    rw e (sym (append-nil (map line_of before.items)), plain)
 lines_kept st (c ∷ cs) before after (l, next, is, one, kept, rest) plain =
     let new = (step (command_of c) st).state in
     let more = lines_from new (map command_of cs) in
     let plain_so : ArePlain next.items =
-    subst ArePlain (sym kept)
-    (All-append (λ x. IsPlain x.answer) before.items (l ∷ []) plain (one_plain l one)) in
-    let (lines, all_plain) = lines_kept new cs next after rest plain_so in (
-      lines ∙ ap (λ w. map line_of w ++ more) kept
-          ∙ ap (λ w. w ++ more) (map-append line_of before.items (l ∷ []))
-          ∙ append_assoc (map line_of before.items) (line_of l ∷ []) more
-          ∙ ap (λ w. map line_of before.items ++ w ∷ more) is,
-      all_plain,
-    )
+    rw kept (All-push (λ x. IsPlain x.answer) before.items l plain one) in
+    let (lines, all_plain) = lines_kept new cs next after rest plain_so in
+    let mapped = map-append line_of before.items (l ∷ []) in
+    let joined = append_assoc (map line_of before.items) (line_of l ∷ []) more in
+    (cc, all_plain)
 
 module _ {W : Type 0} (took : W → List ℕ → W → Type 0) where
   -- lines that are written
@@ -106,8 +83,7 @@ module _ {W : Type 0} (took : W → List ℕ → W → Type 0) where
       → AreReceived (Writes took) st cs f g → IsPlainFormatter f
       → HasWritten took f (lines_text (lines_from st (map command_of cs))) g
   lines_written st [] f g e plain =
-      subst (HasWritten took f []) (sym e)
-      (record { wrote = writes_in_calls_nil took _; plain = plain })
+      rw e (record { wrote = writes_in_calls_nil took _; plain = plain })
   lines_written st (c ∷ cs) f g (l, next, is, one, wrote, rest) plain =
       let new = (step (command_of c) st).state in
       let more = lines_text (lines_from new (map command_of cs)) in
@@ -117,69 +93,53 @@ module _ {W : Type 0} (took : W → List ℕ → W → Type 0) where
       (lines_written new cs next g rest now.plain))
 
   -- lines of two replays
-  pub record AreBoth (st : AllStreams) (cs : List commands.Command) (before after : Pair W) : Type 0
-    where
-      pub state : state_of after.other ≡ last_state (state_of before.other) cs
-      pub left : IsPlainFormatter before.left
-          → HasWritten took before.left (lines_text (lines_from st cs)) after.left
-      pub right : IsPlainFormatter before.right
-          → HasWritten took before.right (lines_text (lines_from (state_of before.other) cs))
-          after.right
-      pub agree : (after.agree ≡ true)
-          ↔ ((before.agree ≡ true)
-          × LinesAgree (lines_from st cs) (lines_from (state_of before.other) cs))
+  pub record AreBoth (ours theirs : List reports.Line) (end : AllStreams) (before after : Pair W)
+      : Type 0 where
+    pub state : state_of after.other ≡ end
+    pub left : IsPlainFormatter before.left
+        → HasWritten took before.left (lines_text ours) after.left
+    pub right : IsPlainFormatter before.right
+        → HasWritten took before.right (lines_text theirs) after.right
+    pub agree : (after.agree ≡ true) ↔ ((before.agree ≡ true) × LinesAgree ours theirs)
 
-  both_none : (st : AllStreams) (p : Pair W) → AreBoth st [] p p
-  both_none st p = record {
-    state = refl;
-    left = λ plain. record { wrote = writes_in_calls_nil took _; plain = plain };
-    right = λ plain. record { wrote = writes_in_calls_nil took _; plain = plain };
-    agree = (λ so. (so, tt), λ so. so.0);
-  }
-
-  pub lines_of_both : (st : AllStreams) (cs : List Command) (before after : Pair W)
-      → AreReceived (GoesOn took) st cs before after → AreBoth st (map command_of cs) before after
-  lines_of_both st [] before after e = subst (AreBoth st [] before) (sym e) (both_none st before)
-  lines_of_both st (c ∷ cs) before after (ours, next, is, one, on, rest) =
-      let x = command_of c in
-      let us = state_of before.other in
-      let later = map command_of cs in
-      let (same, plain, next_state) = on.is_line in
-      let both = lines_of_both (step x st).state cs next after rest in
-      let so = λ (s : AllStreams). lines_from s later in
-      record {
-        state = both.state ∙ ap (λ s. last_state s later) next_state;
+  one_more : (c : Command) (ours : Line) (before next after : Pair W)
+      (on : GoesOn took before c ours next) (l k : reports.Line) (ls ks : List reports.Line)
+      (end : AllStreams) → line_of ours ≡ l → line_of on.theirs ≡ k → AreBoth ls ks end next after
+      → AreBoth (l ∷ ls) (k ∷ ks) end before after
+  one_more c ours before next after on l k ls ks end is same both =
+      rw (← is, ← same) (record {
+        state = both.state;
         left = λ plain.
             let now = on.left plain in
-            subst (λ z. HasWritten took before.left (as_line (line_text z)
-            ++ lines_text (so (step x st).state)) after.left) is
-            (has_written_append took before.left _ next.left _ after.left now
-            (both.left now.plain));
+            has_written_append took before.left _ next.left _ after.left now (both.left now.plain);
         right = λ plain.
             let now = on.right plain in
-            subst (λ s. HasWritten took before.right (as_line (line_text (line x us))
-            ++ lines_text (so s)) after.right) next_state
-            (subst (λ z. HasWritten took before.right (as_line (line_text z)
-            ++ lines_text (so (state_of next.other))) after.right) same
-            (has_written_append took before.right _ next.right _ after.right now
-            (both.right now.plain)));
-        agree =
-            subst (λ s. (after.agree ≡ true) ↔ ((before.agree ≡ true)
-            × (AnswersAgree (line x st).answer (line x us).answer
-            × LinesAgree (so (step x st).state) (so s)))) next_state
-            (subst (λ z. (after.agree ≡ true) ↔ ((before.agree ≡ true)
-            × (AnswersAgree (line x st).answer z.answer
-            × LinesAgree (so (step x st).state) (so (state_of next.other))))) same
-            (subst (λ z. (after.agree ≡ true) ↔ ((before.agree ≡ true)
-            × (AnswersAgree z.answer (line_of on.theirs).answer
-            × LinesAgree (so (step x st).state) (so (state_of next.other))))) is (
-              λ so.
-                  let (here, others) = both.agree.0 so in
-                  let (until, now) = on.agree.0 here in
-                  (until, (now, others)),
-              λ (until, (now, others)). both.agree.1 (on.agree.1 (until, now), others),
-            )));
-      }
+            has_written_append took before.right _ next.right _ after.right now
+            (both.right now.plain);
+        agree = (
+          λ so.
+              let (here, others) = both.agree.0 so in
+              let (until, now) = on.agree.0 here in (until, (now, others)),
+          λ (until, (now, others)). both.agree.1 (on.agree.1 (until, now), others),
+        );
+      })
+
+  pub lines_of_both : (st : AllStreams) (cs : List Command) (before after : Pair W)
+      → AreReceived (GoesOn took) st cs before after
+      → AreBoth (lines_from st (map command_of cs))
+      (lines_from (state_of before.other) (map command_of cs))
+      (last_state (state_of before.other) (map command_of cs)) before after
+  lines_of_both st [] before after e =
+      rw e (record {
+        state = refl;
+        left = λ plain. record { wrote = writes_in_calls_nil took _; plain = plain };
+        right = λ plain. record { wrote = writes_in_calls_nil took _; plain = plain };
+        agree = (λ so. (so, tt), λ so. so.0);
+      })
+  lines_of_both st (c ∷ cs) before after (ours, next, is, one, on, rest) =
+      let (same, plain, next_state) = on.is_line in
+      let both = lines_of_both (step (command_of c) st).state cs next after rest in
+      one_more c ours before next after on _ _ _ _ _ is same (rw next_state at both)
 
   -- the lines of a walk and its verdict, as the contents of the writer, are its report
   pub report_written : (contents : W → List ℕ)
@@ -193,12 +153,10 @@ module _ {W : Type 0} (took : W → List ℕ → W → Type 0) where
   report_written contents appends forest cs st end v begins last is f g h plain none lines ending =
       let text = lines_text (lines_from st cs) ++ as_line (verdict_text (verdict_of v)) in
       let w = lines plain in
+      let wrote =
       contents_after_writes took contents appends _ text _
-      (has_written_append took f _ g _ h w (ending w.plain)).wrote
-      ∙ ap (λ x. x ++ text) none
-      ∙ ap (λ s. lines_text (lines_from s cs) ++ as_line (verdict_text (verdict_of v))) begins
-      ∙ ap (λ x. lines_text (lines_from (first_state forest) cs) ++ as_line (verdict_text x))
-      (is ∙ ap verdict (last ∙ ap (λ s. last_state s cs) begins))
+      (has_written_append took f _ g _ h w (ending w.plain)).wrote in
+      cc
 
 -- reports agree if all their lines do, and then their verdicts
 pub reports_agree : (left right : Report) (lines agree : Bool)

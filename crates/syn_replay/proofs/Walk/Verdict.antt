@@ -11,7 +11,6 @@ use Rattle.tok_buffer.specs.declared.error.Error.{Error}
 use Rattle.syn_replay.specs.Reports.{accepted, left_over}
 use Rattle.tok_buffer.specs.Messages.{first_message}
 use Rattle.syn_replay.specs.Meanings.{IsOneMessage}
-use Rattle.syn_replay.proofs.Messages.{first_message-one}
 
 pub verdict_refused : {T : Type 0} (left : Option Leftover) (r : Result T Fault) (v : T) (e : Error)
     → MatchOption left (r ≡ Ok v) (λ l. FailsWith (leftover_message l) r) → r ≡ Err (Refused e)
@@ -21,6 +20,5 @@ verdict_refused None r v e h is = absurd (cc)
 verdict_refused (Some l) r v e h is =
     let one : e ≡ messages.one_message (leftover_message l) =
     subst (FailsWith (leftover_message l)) is h in
-    let same : first_message e ≡ leftover_message l =
-    ap first_message one ∙ first_message-one (leftover_message l) in
+    let same : first_message e ≡ leftover_message l = ap first_message one in
     (ap left_over same, one ∙ ap messages.one_message (sym same))

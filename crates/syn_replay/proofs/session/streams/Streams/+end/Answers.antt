@@ -62,17 +62,15 @@ module _ (s : Streams) (k : ℕ) (o : is_open_at (state_of s) k ≡ true) where
 
       module _ (h : index < length w.contents.items) (i : ℕ)
           (is : i ≡ get_or z.contents.items index i) where
-        in_list : index < length (own_contents (state_of s) k)
-        in_list = omega (arith, h, count)
-
-        number : i ≡ get_or (own_contents (state_of s) k) index i
-        number = is ∙ ap (λ ks. get_or ks index i) lists_now
-
-        number_within : (k < i) × (i < length now.list.items)
-        number_within =
-            let w = contents_within k (state_of s) index i in_list number in
+        in_turn : (index < length (own_contents (state_of s) k))
+            × (i ≡ get_or (own_contents (state_of s) k) index i)
+            × (k < i) × (i < length now.list.items)
+        in_turn =
+            let inside : index < length (own_contents (state_of s) k) = omega (arith, h, count) in
+            let at = is ∙ ap (λ ks. get_or ks index i) lists_now in
+            let w = contents_within k (state_of s) index i inside at in
             let len = as_many now.list.items index on in
-            (w.0, omega (arith, w.1, len, length-state xs))
+            (inside, at, w.0, omega (arith, w.1, len, length-state xs))
 
 pub invariant_of-self : goal.invariant_of-self
 invariant_of-self t c =
@@ -125,12 +123,12 @@ pub index-requires-in-loop-index-2 : goal.index-requires-in-loop-index-2
 index-requires-in-loop-index-2 t c =
     let w = c.index.result.now in
     let inner =
-    number_within c.args.self.now c.args.k c.requires c.index_mut.result.now
+    in_turn c.args.self.now c.args.k c.requires c.index_mut.result.now
     c.index_mut.ensures.value w c.index.ensures c.loop-index.self c.loop-index.index
     c.loop-index.invariant c.index-in-loop-index.result.now c.index-in-loop-index.ensures
     (omega (arith, w.contents.ok.0, c.loop-index-test.true, c.len-index-end.ensures))
     c.index-i.result.now c.index-i.ensures in
-    omega (arith, c.loop-index.self.list.ok.0, inner.1)
+    omega (arith, c.loop-index.self.list.ok.0, inner.3)
 
 pub end-requires : goal.end-requires
 end-requires t c =
@@ -139,15 +137,15 @@ end-requires t c =
     let i = c.index-i.result.now in
     let w = c.index.result.now in
     let inner =
-    number_within s c.args.k c.requires c.index_mut.result.now c.index_mut.ensures.value w
+    in_turn s c.args.k c.requires c.index_mut.result.now c.index_mut.ensures.value w
     c.index.ensures c.loop-index.self c.loop-index.index c.loop-index.invariant
     c.index-in-loop-index.result.now c.index-in-loop-index.ensures
     (omega (arith, w.contents.ok.0, c.loop-index-test.true, c.len-index-end.ensures)) i
     c.index-i.ensures in
     let len = as_many s c.args.k c.requires zs c.loop-index.index c.loop-index.invariant in
-    let fall : length zs - i < t = omega (arith, c.decreases, inner.0, inner.1, len) in (
+    let fall : length zs - i < t = omega (arith, c.decreases, inner.2, inner.3, len) in (
       fall,
-      open_there zs i c.index-in-loop-index-2.result.now c.index-in-loop-index-2.ensures inner.1
+      open_there zs i c.index-in-loop-index-2.result.now c.index-in-loop-index-2.ensures inner.3
           ∙ c.if-index.true,
     )
 
@@ -169,18 +167,16 @@ loop-index-preserved t c =
     let u = c.index-in-loop-index-2.result.now in
     let h : index < length w.contents.items =
     omega (arith, w.contents.ok.0, c.loop-index-test.true, c.len-index-end.ensures) in
-    let inner = number_within s k c.requires x e w f now index on z g h i c.index-i.ensures in
-    let is_open = open_there now.list.items i u c.index-in-loop-index-2.ensures inner.1 in
+    let (inside, at, low, within) =
+    in_turn s k c.requires x e w f now index on z g h i c.index-i.ensures in
+    let is_open = open_there now.list.items i u c.index-in-loop-index-2.ensures within in
     let then : state_of c.if-index.self ≡ cond (is_open_at st i) (stream_ended i st) st =
     elim c.if-index.branch [
       | then-index w ↦ ap state_of w.self-is ∙ w.end.ensures
           ∙ sym (cond-true _ _ _ (is_open ∙ w.if-index.true))
       | else-index w ↦ ap state_of w.self-is ∙ sym (cond-false _ _ _ (is_open ∙ w.if-index.false))
     ] in
-    ends_next (state_of s) k st index on i
-    (in_list s k c.requires x e w f now index on z g h i c.index-i.ensures)
-    (number s k c.requires x e w f now index on z g h i c.index-i.ensures)
-    (state_of c.if-index.self) then
+    ends_next (state_of s) k st index on i inside at (state_of c.if-index.self) then
 
 pub returns : goal.returns
 returns t c =

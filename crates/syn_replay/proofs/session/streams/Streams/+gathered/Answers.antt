@@ -1,11 +1,10 @@
-use Rattle.std.proofs.Common.{◌≡◌, ◌∙◌, ◌-◌, ◌<◌, ap, sym, ℕ, List, get_or, length}
-use Rattle.std.proofs.Common.{arith}
+use Rattle.std.proofs.Common.{◌≡◌, ◌∙◌, ◌-◌, ◌<◌, ap, sym, ℕ, List, get_or, length, arith}
 use Rattle.syn_replay.specs.Session.State.{parse_state}
 use Rattle.syn_replay.specs.Session.Streams.{state_of}
 use Rattle.syn_replay.specs.declared.session.stream.Stream.{Stream}
 use Rattle.syn_replay.specs.declared.session.streams.Streams.{Streams}
-use Rattle.syn_replay.proofs.Walk.Left.{gathers_first, gathers_last, gathers_open}
-use Rattle.syn_replay.proofs.Walk.Left.{gathers_spent, gathers_within, listed}
+use Rattle.syn_replay.proofs.Walk.Left.{gathers_first, gathers_last, gathers_open, gathers_spent}
+use Rattle.syn_replay.proofs.Walk.Left.{gathers_within, listed}
 use Rattle.syn_replay.proofs.Walk.Links.{above_listed, listed_at}
 use Rattle.syn_replay.proofs.Walk.Streams.{length-state, open_there, stream_there}
 use Rattle.syn_replay.proofs.session.streams.Streams.+gathered.Goals as goal
@@ -25,17 +24,14 @@ module _ (s : Streams) (n : ℕ) (x : Stream) (e : x ≡ get_or s.list.items n x
   -- a turn of the loop over the contents
   module _ (index i : ℕ) (less : index < length x.contents.items)
       (is : i ≡ get_or x.contents.items index i) where
-    in_list : index < length numbers
-    in_list = omega (arith, less, ap length lists)
-
-    number : i ≡ get_or numbers index i
-    number = is ∙ ap (λ ks. get_or ks index i) lists
-
-    number_within : (n < i) × (i < length s.list.items)
-    number_within =
+    in_turn : (index < length numbers) × (i ≡ get_or numbers index i) × (n < i)
+        × (i < length s.list.items)
+    in_turn =
+        let inside : index < length numbers = omega (arith, less, ap length lists) in
+        let at : i ≡ get_or numbers index i = is ∙ ap (λ ks. get_or ks index i) lists in
         let w =
-        gathers_within (state_of s) (above_listed s.list.items s.listed) n index i in_list number in
-        (w.0, omega (arith, w.1, length-state s.list.items))
+        gathers_within (state_of s) (above_listed s.list.items s.listed) n index i inside at in
+        (inside, at, w.0, omega (arith, w.1, length-state s.list.items))
 
 pub loop-index-init : goal.loop-index-init
 loop-index-init t c =
@@ -52,11 +48,11 @@ index-requires t c =
     let s = c.args.self.now in
     let x = c.index-stream.result.now in
     let inner =
-    number_within s c.args.n x c.index-stream.ensures c.requires c.loop-index.index
+    in_turn s c.args.n x c.index-stream.ensures c.requires c.loop-index.index
     c.index-i.result.now
     (omega (arith, x.contents.ok.0, c.loop-index-test.true, c.len-index-end.ensures))
     c.index-i.ensures in
-    omega (arith, s.list.ok.0, inner.1)
+    omega (arith, s.list.ok.0, inner.3)
 
 pub gathered-requires : goal.gathered-requires
 gathered-requires t c =
@@ -65,11 +61,11 @@ gathered-requires t c =
     let x = c.index-stream.result.now in
     let i = c.index-i.result.now in
     let inner =
-    number_within s c.args.n x c.index-stream.ensures c.requires c.loop-index.index i
+    in_turn s c.args.n x c.index-stream.ensures c.requires c.loop-index.index i
     (omega (arith, x.contents.ok.0, c.loop-index-test.true, c.len-index-end.ensures))
     c.index-i.ensures in
-    let fall : length xs - i < t = omega (arith, c.decreases, inner.0, inner.1) in
-    (fall, omega (arith, inner.1, length-state xs))
+    let fall : length xs - i < t = omega (arith, c.decreases, inner.2, inner.3) in
+    (fall, omega (arith, inner.3, length-state xs))
 
 pub loop-index-preserved : goal.loop-index-preserved
 loop-index-preserved t c =
@@ -83,10 +79,8 @@ loop-index-preserved t c =
     let index = c.loop-index.index in
     let less : index < length x.contents.items =
     omega (arith, x.contents.ok.0, c.loop-index-test.true, c.len-index-end.ensures) in
-    let h = in_list s n x e c.requires index i less c.index-i.ensures in
-    let is = number s n x e c.requires index i less c.index-i.ensures in
-    let inner = number_within s n x e c.requires index i less c.index-i.ensures in
-    let is_open = open_there s.list.items i c.index.result.now c.index.ensures inner.1 in
+    let (h, is, low, within) = in_turn s n x e c.requires index i less c.index-i.ensures in
+    let is_open = open_there s.list.items i c.index.result.now c.index.ensures within in
     elim c.if-index.branch [
       | then-index w ↦
           gathers_open st above n c.loop-index.input index c.loop-index.invariant i h is

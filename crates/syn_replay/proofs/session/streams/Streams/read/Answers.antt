@@ -1,6 +1,7 @@
-use Rattle.std.proofs.Common.{◌≡◌, ◌∙◌, ◌<◌, ap, ap₂, sym, refl, length, length-set, arith, Ok, Err}
+use Rattle.std.proofs.Common.{◌≡◌, ◌∙◌, ◌<◌, ap, ap₂, sym, refl, length, length-set, arith}
 use Rattle.std.proofs.Math.Seq.{map-set_same}
-use Rattle.std.specs.Prelude.{cond, not, IfOk, Option, Result, Some, None}
+use Rattle.std.proofs.lemmas.Result.{IfOk-weaker}
+use Rattle.std.specs.Prelude.{cond, not, Option, Some, None}
 use Rattle.syn_replay.specs.Commands.{command_of}
 use Rattle.syn_replay.specs.Session.State.{Stream, printed_position, stream_at, with_stream}
 use Rattle.syn_replay.specs.Reports.{missing}
@@ -13,11 +14,6 @@ use Rattle.syn_replay.proofs.Walk.Lines.{line_missed, line_there}
 use Rattle.syn_replay.proofs.Walk.Links.{listed_set}
 use Rattle.syn_replay.proofs.Walk.Streams.{changed_there, known_there, stream_there}
 use Rattle.syn_replay.proofs.session.streams.Streams.read.Goals as goal
-
-if_ok : {T E : Type 0} (r : Result T E) (P Q : T → Type 0) → ((x : T) → P x → Q x) → IfOk r P
-    → IfOk r Q
-if_ok (Ok x) P Q f h = f x h
-if_ok (Err e) P Q f h = tt
 
 pub invariant_of-self : goal.invariant_of-self
 invariant_of-self c =
@@ -49,7 +45,7 @@ returns-then-stream c =
     let e = c.stream_number-n.ensures in
     let here =
     ap (stream_at st) (sym e) ∙ stream_there xs n x c.index_mut-stream.ensures.value within in
-    if_ok c.read.result _ _
+    IfOk-weaker c.read.result _ _
     (λ l h.
     line_there command.stream st command.action (stream_of x) (stream_of z) l _
     (here, c.if-stream.true) h
