@@ -16,6 +16,7 @@ pub mod Nesting
 pub mod OnForks
 pub mod Parsed
 pub mod Pieces
+pub mod Positions
 pub mod Received
 pub mod Steps
 pub mod Streams

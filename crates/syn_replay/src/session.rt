@@ -21,11 +21,12 @@ ghost use Rattle.syn_replay.specs.Session.Rooms.{streams_room};
 ghost use Rattle.syn_replay.specs.Session.Streams.{room_of, state_of};
 
 use crate::command::Command;
-use crate::report::{Line, Report, Verdict};
+use crate::report::{Answer, Line, Report, Verdict};
+use crate::session::lists::Form;
 use crate::session::runner::run;
 use crate::session::streams::Streams;
 use std::alloc::{AllocError, Global};
-use syn_parse::{Fault, tokens_to_parse_buffer};
+use syn_parse::{Fault, Parse, tokens_to_parse_buffer};
 use tok_buffer::TokenBuffer;
 use tok_core::{Span, TokenStream};
 
@@ -35,13 +36,39 @@ pub fn line<'a>(streams: &mut Streams<'a>, command: &Command) -> Result<Line, Al
         (λ l. IsLine l (state_of streams.new) (state_of streams.old) (command_of command.now)) }
 {
     match command {
+        Command::Peek(n, look) => {
+            streams.read(*n, |input| Ok(Answer::Truth(look.peek(input.cursor()))))
+        }
+        Command::Peek2(n, look) => {
+            streams.read(*n, |input| Ok(Answer::Truth(look.peek2(input.cursor()))))
+        }
+        Command::Peek3(n, look) => {
+            streams.read(*n, |input| Ok(Answer::Truth(look.peek3(input.cursor()))))
+        }
+        Command::Parse(n, kind) => streams.parse(*n, *kind),
+        Command::Optional(n, kind) => streams.read(*n, |input| reads::optional(input, *kind)),
+        Command::Empty(n) => streams.read(*n, |input| Ok(Answer::Truth(input.is_empty()))),
         Command::Enter(n, delimiter) => streams.enter(*n, Some(*delimiter)),
         Command::EnterAny(n) => streams.enter(*n, None),
+        Command::Terminated(n, kind, separator) => streams.read(*n, |input| {
+            lists::read(input, Form::Terminated, *kind, *separator)
+        }),
+        Command::Separated(n, kind, separator) => streams.read(*n, |input| {
+            lists::read(input, Form::Separated, *kind, *separator)
+        }),
+        Command::Lookahead(n, looks) => streams.read(*n, |input| reads::look_ahead(input, looks)),
         Command::Fork(n) => streams.fork(*n),
         Command::Advance(n, fork) => Ok(streams.advance(*n, *fork)),
         Command::Discard(n) => Ok(streams.discard(*n)),
         Command::Close(n) => Ok(streams.close(*n)),
-        _ => streams.read(command),
+        Command::StreamSpan(n) => streams.read(*n, |input| Ok(Answer::At(input.span()))),
+        Command::CursorSpan(n) => streams.read(*n, |input| Ok(Answer::At(input.cursor().span()))),
+        Command::PreviousSpan(n) => {
+            streams.read(*n, |input| Ok(Answer::At(input.cursor().prev_span())))
+        }
+        Command::Tree(n) => streams.read(*n, |input| reads::tree(input)),
+        Command::Rest(n) => streams.read(*n, |input| Ok(Answer::Trees(TokenStream::parse(input)?))),
+        Command::GroupTree(n) => streams.read(*n, |input| reads::group(input)),
     }
 }
 

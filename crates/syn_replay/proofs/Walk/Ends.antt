@@ -42,6 +42,16 @@ kinds_from f n (s ∷ later) =
 pub ended_length : (f : Test) (st : AllStreams) → length (ended_from f 0 st) ≡ length st
 ended_length f st = same_length (ended_from f 0 st) st (kinds_from f 0 st)
 
+place_if : (b : Bool) (s : Stream) → (spent_if b s).place ≡ s.place
+place_if b s = grind arith
+
+-- a stream that ends stays at its place
+pub ended_place : (f : Test) (n : ℕ) (st : AllStreams) (m : ℕ)
+    → (stream_at (ended_from f n st) m).place ≡ (stream_at st m).place
+ended_place f n [] m = refl
+ended_place f n (s ∷ later) zero = place_if (ends_at f n s) s
+ended_place f n (s ∷ later) (suc m) = ended_place (test_with f n (ends_at f n s)) (n + 1) later m
+
 pub same_kind : (st us : AllStreams) → kinds st ≡ kinds us → (m : ℕ)
     → kind_at st m ≡ kind_at us m
 same_kind st us e m =

@@ -51,9 +51,12 @@ module _ (st : AllStreams) (n : ℕ) (s : states.Stream) (here : stream_at st n 
         (result : Result Answer AllocError)
         → Enters AreEntered x (refused_at (parse_state s) words) (parse_state s) (Err f) t
         → Answers f result
-        → IfOk result (λ a. IsStepped a st (into_group st n s words x))
-    entered-error None (Refused e) t (Ok a) h q =
-        (answered-error (refused_at (parse_state s) words) e a h.0 q, refl)
+        → IfOk result
+        (λ a. IsStepped a st (into_group st n s words x) × (t.place ≡ (stream_at st n).place))
+    entered-error None (Refused e) t (Ok a) h q = (
+      (answered-error (refused_at (parse_state s) words) e a h.0 q, refl),
+      ap (λ z. z.place) h.1 ∙ ap (λ z. z.place) (sym here),
+    )
     entered-error None (Refused e) t (Err m) h q = tt
     entered-error None (Memory e) t (Ok a) h q = absurd q
     entered-error None (Memory e) t (Err m) h q = tt

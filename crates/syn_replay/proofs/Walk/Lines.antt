@@ -1,28 +1,31 @@
 -- The line of a read.
 use Rattle.std.proofs.Common.{◌≡◌, ◌∙◌, ap, ap₂, sym, refl, ℕ, true, false, [], ◌∷◌, length, set}
-use Rattle.std.proofs.Common.{Option, Some, None, Ok, Err, arith}
+use Rattle.std.proofs.Common.{subst, Option, Some, None, arith}
 use Rattle.std.proofs.lemmas.Bool.{both_ways, lt-leb}
-use Rattle.std.proofs.lemmas.List.{get_or-set_same, length-set}
-use Rattle.std.specs.Prelude.{◌||◌, not, cond}
+use Rattle.std.specs.Borrow.{MutBor}
+use Rattle.std.specs.Fn.{FnOnceReturnsAtMut, Once}
+use Rattle.std.specs.Prelude.{◌||◌, not, cond, IfOk, Result}
 use Rattle.std.specs.Option.{option_or}
 use Rattle.syn_parse.specs.State as parse
 use Rattle.syn_parse.specs.State.{moved}
-use Rattle.syn_parse.specs.declared.fault.Fault.TheVariants as fault
-use Rattle.tok_buffer.specs.declared.error.Error.{Error}
-use Rattle.syn_replay.specs.Commands.{Action, Command, StreamRead, on, read_answer}
+use Rattle.syn_parse.specs.declared.fault.Fault.{Fault}
+use Rattle.syn_parse.proofs.GroupTakes.{at-states}
+use Rattle.syn_replay.specs.Commands.{Action, Command, StreamRead, command_of, on, read_answer}
 use Rattle.syn_replay.specs.Commands as commands
 use Rattle.syn_replay.specs.Meanings.{IsAnswer, position_of}
 use Rattle.syn_replay.specs.Reports as reports
 use Rattle.syn_replay.specs.Reports.{missing, misused}
-use Rattle.syn_replay.specs.Session.Reading.{IsDone, is_read}
+use Rattle.syn_replay.specs.Session.Reading.{IsRead, Reads}
 use Rattle.syn_replay.specs.Session.State.{AllStreams, Stream, parse_state, moved_to}
 use Rattle.syn_replay.specs.Session.State.{printed_position, is_open_at, kind_at, moved_as}
-use Rattle.syn_replay.specs.Session.State.{no_stream, stream_at, with_stream}
+use Rattle.syn_replay.specs.Session.State.{stream_at, with_stream}
 use Rattle.syn_replay.specs.Session.Step.{Stepped, is_fork, is_unknown, kind_misuse, misuse}
 use Rattle.syn_replay.specs.Session.Step.{named_by, on_stream, other_named, position_in, step}
 use Rattle.syn_replay.specs.Session.Step.{stream_misuse, stream_position, unmoved, with_other}
 use Rattle.syn_replay.specs.Session.Promises.{IsLine, IsOpen, IsStepped, IsStream}
 use Rattle.syn_replay.specs.Session.Stream.{IsReadLine}
+use Rattle.std.specs.declared.alloc.AllocError.{AllocError}
+use Rattle.syn_replay.specs.declared.command.Command as program
 use Rattle.syn_replay.specs.declared.report.Answer.{Answer}
 use Rattle.syn_replay.specs.declared.report.Answer.TheVariants as answer
 use Rattle.syn_replay.specs.declared.report.Line.{Line}
@@ -31,13 +34,14 @@ use Rattle.syn_replay.specs.declared.report.Misuse.TheVariants.{NoStream, Spent}
 use Rattle.syn_replay.specs.declared.report.Position.{Position}
 use Rattle.syn_replay.proofs.Walk.Changes.{open_within}
 use Rattle.syn_replay.proofs.Walk.Misuse.{misused_or}
+use Rattle.syn_replay.proofs.Walk.Positions.{position_changed}
 
 -- an answer and the position after it are the line of a read
 module _ (s new : Stream) (q : Position) (t : parse.State) (is : new ≡ moved_as t s)
     (stands : position_of q ≡ printed_position t.place) where
   pub line_read : (r : StreamRead) (x : Answer) → IsAnswer x (read_answer r s.place s.scope_span).0
       → t ≡ moved (read_answer r s.place s.scope_span).1 (parse_state s)
-      → IsReadLine (commands.read r) (record { answer = x; position = q }) s new
+      → IsReadLine r (record { answer = x; position = q }) s new
   line_read r x same left = (
     ap₂ (λ z w. record { answer = z; position = w }) same.0
         (stands ∙ ap (λ u. printed_position u.place) left),
@@ -45,15 +49,20 @@ module _ (s new : Stream) (q : Position) (t : parse.State) (is : new ≡ moved_a
     is ∙ ap (λ u. moved_as u s) left,
   )
 
-  pub line_answered : (a : Action) (x : Answer) → IsDone a (parse_state s) (Ok x) t
-      → IsReadLine a (record { answer = x; position = q }) s new
-  line_answered (commands.read r) x h = line_read r x h.0 h.1
-  line_answered a x h = h
-
-  pub line_refused : (a : Action) (e : Error) → IsDone a (parse_state s) (Err (fault.Refused e)) t
-      → IsReadLine a (record { answer = answer.Refused e; position = q }) s new
-  line_refused (commands.read r) e h = line_read r (answer.Refused e) h.0 h.1
-  line_refused a e h = h
+-- the line of a command that is a read, by a function whose calls are this read
+pub line_by : {F : Type 0} (g : Once F (MutBor parse.State × Unit {0})
+    (Result Answer Fault × (MutBor parse.State × Unit {0}))) (f : F) (r : StreamRead) (n : ℕ)
+    (k : program.Command) (l : Result Line AllocError) (new old : AllStreams)
+    → command_of k ≡ on n (commands.read r)
+    → ((p q : MutBor parse.State) (x : Result Answer Fault) → g.post f (p, tt) (x, (q, tt))
+    → IsRead r p.now x q.now)
+    → ((s : StreamRead) → Reads s (FnOnceReturnsAtMut g f)
+    → IfOk l (λ x. IsLine x new old (on n (commands.read s))))
+    → IfOk l (λ x. IsLine x new old (command_of k))
+line_by g f r n k l new old e h said =
+    subst (λ z. IfOk l (λ x. IsLine x new old z)) (sym e)
+    (said r (λ s t x called. at-states (IsRead r) _ _ s t x called.shows called.leaves
+    (h called.shown called.left x called.met)))
 
 -- a line of an answer and a position that are those of a step
 module _ (c : Command) (st after : AllStreams) (x : Answer) (q : Position) (r : Stepped)
@@ -115,34 +124,19 @@ module _ (n : ℕ) (st : AllStreams) (a : Action) (alone : other_named a ≡ Non
 
 -- a read on a stream of several
 module _ (n : ℕ) (st : AllStreams) where
-  -- the stream is missing or spent
-  pub line_missed : (a : Action) → is_read a ≡ true → (m : Misuse) (q : Position)
-      → stream_misuse st n ≡ Some m → position_of q ≡ stream_position st n
-      → IsLine (record { answer = answer.Misused m; position = q }) st st (on n a)
-  line_missed (commands.read r) is m q e at =
-      line_misused n st (commands.read r) refl m
-      (record { answer = answer.Misused m; position = q }) (ap (λ o. option_or o None) e) refl at
-  line_missed a is m q e at = cc
-
   -- it is open
-  pub line_there : (a : Action) (s new : Stream) (l : Line) (after : AllStreams) → IsOpen st n s
-      → IsReadLine a l s new → after ≡ with_stream st n (λ _. new) → IsLine l after st (on n a)
-  line_there (commands.read r) s new l after (here, is_open) (same, plain, moved_so) e =
+  pub line_there : (r : StreamRead) (s new : Stream) (l : Line) (after : AllStreams)
+      → IsOpen st n s → IsReadLine r l s new → after ≡ with_stream st n (λ _. new)
+      → IsLine l after st (on n (commands.read r))
+  line_there r s new l after (here, is_open) (same, plain, moved_so) e =
       let (said, p) = read_answer r s.place s.scope_span in
       let moved_here : new ≡ moved_to p (stream_at st n) = moved_so ∙ ap (moved_to p) (sym here) in
       let then : after ≡ with_stream st n (moved_to p) = e ∙ ap (set st n) moved_here in
-      let within = open_within st n (ap (λ z. z.is_open) here ∙ is_open) in
-      let u = moved_to p (stream_at st n) in
-      let known : is_unknown after n ≡ false =
-      lt-leb (length after) n (omega (arith, within, ap length then, length-set st n u)) in
-      let at : (stream_at after n).place ≡ p =
-      ap (λ z. (stream_at z n).place) then
-      ∙ ap (λ z. z.place) (get_or-set_same st n u no_stream within) in
       line_done n st (commands.read r) refl s (here, is_open) refl l.answer l after refl
       (ap (λ z. z.answer) same, plain) then
       (ap (λ z. z.position) same
-      ∙ sym (ap₂ (λ b q. cond b missing (printed_position q)) known at))
-  line_there a s new l after h same e = absurd same
+      ∙ sym (ap (λ z. stream_position z n) then
+      ∙ position_changed st n (moved_to p) (open_within st n (ap (λ z. z.is_open) here ∙ is_open))))
 
 -- a stream advances to another: both are there and fit
 pub advance_fit : (n f : ℕ) (st : AllStreams) (s x : Stream) → IsStream st n s → IsStream st f x

@@ -5,9 +5,11 @@ use Rattle.std.proofs.lemmas.Bool.{le-leb, lt-leb}
 use Rattle.std.proofs.lemmas.List.{get_or-map, length-map, map-set}
 use Rattle.syn_replay.specs.Session.State.{is_open_at, no_stream, stream_at, with_stream}
 use Rattle.syn_replay.specs.Session.State as states
+use Rattle.syn_replay.specs.Session.Promises.{IsOpen}
 use Rattle.syn_replay.specs.Session.Step.{is_unknown}
 use Rattle.syn_replay.specs.Session.Stream.{stream_of, state_of_list}
 use Rattle.syn_replay.specs.declared.session.stream.Stream.{Stream}
+use Rattle.syn_replay.proofs.Walk.Changes.{open_within}
 
 pub length-state : (xs : List Stream) → length (state_of_list xs) ≡ length xs
 length-state xs = length-map xs stream_of
@@ -34,3 +36,9 @@ changed_there xs n x y f e h q =
 pub open_there : (xs : List Stream) (n : ℕ) (x : Stream) → x ≡ get_or xs n x → n < length xs
     → is_open_at (state_of_list xs) n ≡ x.is_open
 open_there xs n x e h = ap (λ s. s.is_open) (stream_there xs n x e h)
+
+pub open_listed : (xs : List Stream) (n : ℕ) (s : states.Stream) → IsOpen (state_of_list xs) n s
+    → n < length xs
+open_listed xs n s here =
+    let low = open_within (state_of_list xs) n (ap (λ z. z.is_open) here.0 ∙ here.1) in
+    omega (arith, low, length-state xs)

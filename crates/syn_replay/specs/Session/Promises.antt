@@ -1,5 +1,5 @@
 -- What the parts of a replay promise.
-use Rattle.std.specs.Prelude.{◌≡◌, ℕ, true, false, List, [], ◌∷◌, Result, Ok, Err}
+use Rattle.std.specs.Prelude.{◌≡◌, ℕ, true, false, List, [], ◌∷◌, None, Result, Ok, Err}
 use Rattle.std.specs.List.{All}
 use Rattle.std.specs.declared.alloc.AllocError.{AllocError}
 use Rattle.syn_parse.specs.declared.fault.Fault.{Fault}
@@ -8,7 +8,7 @@ use Rattle.syn_replay.specs.Commands as commands
 use Rattle.syn_replay.specs.Commands.{command_of}
 use Rattle.syn_replay.specs.Reports as reports
 use Rattle.syn_replay.specs.Session.State.{AllStreams, Stream, stream_at}
-use Rattle.syn_replay.specs.Session.Step.{Stepped, is_unknown, step, line}
+use Rattle.syn_replay.specs.Session.Step.{Stepped, is_unknown, other_named, step, line}
 use Rattle.tok_buffer.specs.Messages.{first_message}
 use Rattle.syn_replay.specs.Meanings.{IsAnswer, IsPlain, answer_of, line_of}
 use Rattle.syn_replay.specs.Meanings.{IsOneMessage}
@@ -26,6 +26,10 @@ IsStepped a st s = IsAnswer a s.answer × (st ≡ s.state)
 abbrev pub IsLine : Line → (new old : AllStreams) → commands.Command → Type 0
 IsLine l new old c =
     (line_of l ≡ line c old) × IsPlain l.answer × (new ≡ (step c old).state)
+
+-- the line of each command on stream n alone, if this stream is missing or has ended
+abbrev pub IsMissed : Line → AllStreams → ℕ → Type 0
+IsMissed l st n = (a : commands.Action) → other_named a ≡ None → IsLine l st st (commands.on n a)
 
 -- all errors are of one message
 abbrev pub ArePlain : List Line → Type 0

@@ -1,5 +1,5 @@
 -- What the parts of a read promise.
-use Rattle.std.specs.Prelude.{◌≡◌, ℕ, Bool, true, false, List, [], ◌∷◌, map, Option, Some, None}
+use Rattle.std.specs.Prelude.{◌≡◌, ℕ, List, [], ◌∷◌, map, Option, Some, None}
 use Rattle.std.specs.Prelude.{Result, Ok, Err, encode_utf8}
 use Rattle.std.specs.Global.{Vec}
 use Rattle.tok_leaves.specs.declared.span.Span.{Span}
@@ -14,8 +14,7 @@ use Rattle.syn_parse.specs.declared.fault.Fault.TheVariants.{Refused, Memory}
 use Rattle.syn_punctuated.specs.declared.pair.Pair.{Pair}
 use Rattle.syn_punctuated.specs.declared.pair.Pair.TheVariants.{Punctuated, End}
 use Rattle.tok_types.specs.declared.punctuation.Punctuation.{Punctuation}
-use Rattle.syn_replay.specs.Commands as commands
-use Rattle.syn_replay.specs.Commands.{Action, StreamRead, read, read_answer}
+use Rattle.syn_replay.specs.Commands.{StreamRead, read_answer}
 use Rattle.syn_replay.specs.Reports as reports
 use Rattle.syn_replay.specs.Turns.{ListRule, pieces_of, terminated, separated}
 use Rattle.tok_buffer.specs.Messages.{first_message}
@@ -79,21 +78,9 @@ IsRead r s result t =
     GivesAnswer (read_answer r s.place s.scope_span).0 result
     × LeavesAt result t (moved (read_answer r s.place s.scope_span).1 s)
 
--- whether a command concerns no other stream
-abbrev pub is_read : Action → Bool
-is_read (read r) = true
-is_read a = false
-
--- whether a command concerns no other stream, and doesn't just parse a token
-abbrev pub is_other_read : Action → Bool
-is_other_read (read (commands.parse k)) = false
-is_other_read (read r) = true
-is_other_read a = false
-
--- an action that is a read is done; no other action is
-abbrev pub IsDone : Action → parse.State → Result Answer Fault → parse.State → Type 0
-IsDone (read r) s result t = IsRead r s result t
-IsDone a s result t = ⊥
+-- each of these calls is this read
+abbrev pub Reads : StreamRead → (parse.State → Result Answer Fault → parse.State → Type 0) → Type 0
+Reads r calls = (s t : parse.State) (x : Result Answer Fault) → calls s x t → IsRead r s x t
 
 -- the rule of a list of this form
 abbrev pub rule_of : Form → ListRule

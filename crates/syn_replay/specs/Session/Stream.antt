@@ -1,7 +1,7 @@
 -- What a stream of the program stands for.
 use Rattle.std.specs.Prelude.{◌≡◌, ℕ, Bool, true, false, List, map, Option, Some, None}
 use Rattle.syn_parse.specs.Pauses.{paused_state}
-use Rattle.syn_replay.specs.Commands.{Action, read, read_answer}
+use Rattle.syn_replay.specs.Commands.{StreamRead, read_answer}
 use Rattle.syn_replay.specs.Meanings.{IsPlain, line_of}
 use Rattle.syn_replay.specs.Session.State.{AllStreams, StreamKind, outermost, content_of, a_fork}
 use Rattle.syn_replay.specs.Session.State.{moved_to, printed_position, stream_from}
@@ -29,11 +29,9 @@ KeepsContents before after =
     (after.parent ≡ before.parent) × (after.contents ≡ before.contents)
     × (after.is_fork ≡ before.is_fork)
 
--- the line of a read on an open stream, which is then at the place after it; an action that is no
--- read has no such line
-abbrev pub IsReadLine : Action → Line → spec.Stream → spec.Stream → Type 0
-IsReadLine (read r) l s t =
+-- the line of a read on an open stream, which is then at the place after it
+abbrev pub IsReadLine : StreamRead → Line → spec.Stream → spec.Stream → Type 0
+IsReadLine r l s t =
     let (answer, p) = read_answer r s.place s.scope_span in
     (line_of l ≡ record { answer = answer; position = printed_position p }) × IsPlain l.answer
     × (t ≡ moved_to p s)
-IsReadLine a l s t = ⊥

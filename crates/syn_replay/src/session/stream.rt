@@ -1,20 +1,21 @@
 //! A single stream of a replay.
 ghost use Rattle.std.specs.Prelude.{◌≡◌, [], IfOk, None, true, false};
+ghost use Rattle.std.specs.Fn.{FnOnceReturnsAtMut};
 ghost use Rattle.tok_buffer.specs.Cursors.{place_of};
 ghost use Rattle.syn_parse.specs.Pauses.{paused_state};
 ghost use Rattle.syn_replay.specs.Commands as commands;
-ghost use Rattle.syn_replay.specs.Commands.{command_of};
+ghost use Rattle.syn_replay.specs.Commands.{StreamRead};
 ghost use Rattle.syn_replay.specs.Meanings.{kind_of, position_of};
-ghost use Rattle.syn_replay.specs.Session.Reading.{is_other_read, is_read};
+ghost use Rattle.syn_replay.specs.Session.Reading.{Reads};
 ghost use Rattle.syn_replay.specs.Session.State.{a_fork, printed_position, stream_from};
 ghost use Rattle.syn_replay.specs.Session.Step.{is_content, is_fork};
 ghost use Rattle.syn_replay.specs.Session.Stream.{IsReadLine, KeepsContents, stream_kind, stream_of};
 
-use crate::command::{Command, Kind};
+use crate::command::Kind;
 use crate::report::{Answer, Line, Position};
-use crate::session::{reads, tokens};
+use crate::session::tokens;
 use std::alloc::{AllocError, Global};
-use syn_parse::{Fault, Paused};
+use syn_parse::{Fault, ParseStream, Paused};
 use tok_buffer::Cursor;
 
 /// A stream of a replay, paused between two commands.
@@ -82,27 +83,24 @@ impl<'a> Stream<'a> {
         position_at(self.paused.cursor())
     }
 
-    /// Runs a command that concerns only this stream.
-    pub fn read(&mut self, command: &Command) -> Result<Line, AllocError>
-        requires { is_read (command_of command.now).action ≡ true }
-        ensures line { IfOk result
-            (λ l. IsReadLine (command_of command.now).action l
-            (stream_of self.old) (stream_of self.new)) }
-        ensures contents { KeepsContents self.old self.new }
+    /// Returns the line of a command with this answer that leaves the stream where it is.
+    pub fn line(&self, answer: Answer) -> Line
+        ensures answer { result.answer ≡ answer }
+        ensures position { position_of result.position
+            ≡ printed_position (stream_of self.now).place }
     {
-        match command {
-            Command::Parse(_, kind) => self.parse(*kind),
-            _ => self.answer(command),
+        Line {
+            answer,
+            position: self.position(),
         }
     }
 
-    // Parses a token of this kind. The pieces go into the line at once, and not by way of an answer.
-    // Out of line, as `Streams` says.
-    #[inline(never)]
-    fn parse(&mut self, kind: Kind) -> Result<Line, AllocError>
+    /// Parses a token of this kind. The pieces go into the line at once, and not by way of an
+    /// answer.
+    pub fn parse(&mut self, kind: Kind) -> Result<Line, AllocError>
         ensures line { IfOk result
-            (λ l. IsReadLine (commands.read (commands.parse (kind_of kind))) l
-            (stream_of self.old) (stream_of self.new)) }
+            (λ l. IsReadLine (commands.parse (kind_of kind)) l (stream_of self.old)
+            (stream_of self.new)) }
         ensures contents { KeepsContents self.old self.new }
     {
         let mut input = self.paused.resume();
@@ -122,17 +120,17 @@ impl<'a> Stream<'a> {
         }
     }
 
-    // Runs any other command that concerns no other stream. Out of line as `parse` is.
-    #[inline(never)]
-    fn answer(&mut self, command: &Command) -> Result<Line, AllocError>
-        requires { is_other_read (command_of command.now).action ≡ true }
-        ensures line { IfOk result
-            (λ l. IsReadLine (command_of command.now).action l
-            (stream_of self.old) (stream_of self.new)) }
+    /// Runs another read on this stream, and returns its line.
+    pub fn read<F>(&mut self, read: F) -> Result<Line, AllocError>
+    where
+        F: FnOnce(ParseStream<'_, 'a>) -> syn_parse::Result<Answer>,
+        requires { F.IsAlwaysCallable read }
+        ensures line { (r : StreamRead) → Reads r (FnOnceReturnsAtMut F.FnOnce read)
+            → IfOk result (λ l. IsReadLine r l (stream_of self.old) (stream_of self.new)) }
         ensures contents { KeepsContents self.old self.new }
     {
         let mut input = self.paused.resume();
-        let answer = reads::answer(&mut input, command);
+        let answer = input.call(read);
         let position = position_at(input.cursor());
         self.paused = input.pause();
         match answer {
@@ -146,8 +144,8 @@ impl<'a> Stream<'a> {
     }
 }
 
-// Returns the position of a stream at this cursor.
-fn position_at(cursor: Cursor<'_>) -> Position
+/// Returns the position of a stream at this cursor.
+pub fn position_at(cursor: Cursor<'_>) -> Position
     ensures { position_of result ≡ printed_position (place_of cursor.entry) }
 {
     match cursor.position() {

@@ -5,11 +5,14 @@ ghost use Rattle.syn_parse.specs.ErrorWords.{refused_at};
 ghost use Rattle.syn_replay.specs.Session.Entering.{entered_by, entering_words};
 ghost use Rattle.syn_replay.specs.Session.Links.{AreListed};
 ghost use Rattle.syn_replay.specs.Session.Promises.{Answers};
+ghost use Rattle.syn_replay.specs.declared.report.Answer.TheVariants as answer;
+ghost use Rattle.syn_replay.specs.declared.report.Misuse.TheVariants.{NoStream};
+ghost use Rattle.syn_replay.specs.declared.report.Position.TheVariants as position;
 
-use crate::command::Command;
+use crate::command::Kind;
 use crate::report::{Answer, Line, Misuse, Position};
 use crate::session::rooms;
-use crate::session::stream::Stream;
+use crate::session::stream::{Stream, position_at};
 use std::alloc::{AllocError, Global};
 use syn_parse::{
     Braces, Brackets, Fault, Group, Parens, ParseBuffer, ParseStream, Paused, parse_braces,
@@ -33,14 +36,15 @@ pub struct Streams<'a> {
 // command, the locals of all that is inlined into it.
 impl<'a> Streams<'a> {
     ghost use Rattle.std.specs.Prelude.{◌≡◌, ◌<◌, ◌∷◌, [], ◌++◌, length, Some, None, MatchOption, MatchResult, IfOk, OnOk, OnErr, true};
+    ghost use Rattle.std.specs.Fn.{FnOnceReturnsAtMut};
     ghost use Rattle.syn_parse.specs.Pauses.{paused_state};
     ghost use Rattle.syn_replay.specs.Commands as commands;
     ghost use Rattle.syn_replay.specs.Session.State.{outermost, content_of, a_fork, gathered, parse_state, with_stream, stream_from, moved_as, stream_ended, is_inside, is_open_at, is_or_inside};
-    ghost use Rattle.syn_replay.specs.Session.Step.{is_unknown, stream_misuse, stream_position};
-    ghost use Rattle.syn_replay.specs.Commands.{command_of, on};
-    ghost use Rattle.syn_replay.specs.Meanings.{position_of};
-    ghost use Rattle.syn_replay.specs.Session.Reading.{is_read};
-    ghost use Rattle.syn_replay.specs.Session.Promises.{IsLine, IsOpen, IsStream};
+    ghost use Rattle.syn_replay.specs.Session.Step.{is_unknown};
+    ghost use Rattle.syn_replay.specs.Commands.{StreamRead, on};
+    ghost use Rattle.syn_replay.specs.Meanings.{kind_of};
+    ghost use Rattle.syn_replay.specs.Session.Reading.{Reads};
+    ghost use Rattle.syn_replay.specs.Session.Promises.{IsLine, IsMissed, IsOpen, IsStream};
     ghost use Rattle.syn_replay.specs.Session.Stream.{stream_of};
     ghost use Rattle.syn_replay.specs.Session.Rooms.{streams_room};
     ghost use Rattle.syn_replay.specs.Session.Streams.{room_of, state_of};
@@ -70,52 +74,45 @@ impl<'a> Streams<'a> {
         }
     }
 
-    // Returns stream `n` if it is open.
-    fn open(&self, n: usize) -> std::result::Result<&Stream<'a>, Misuse>
+    // Returns stream `n` if it is open, and otherwise the line of a command on it.
+    fn open(&self, n: usize) -> std::result::Result<&Stream<'a>, Line>
         ensures { MatchResult result
             (λ s. IsOpen (state_of self.now) n (stream_of s.now))
-            (λ m. stream_misuse (state_of self.now) n ≡ Some m) }
+            (λ l. IsMissed l (state_of self.now) n) }
     {
         match self.get(n) {
-            None => Err(Misuse::NoStream),
-            Some(stream) if !stream.is_open => Err(Misuse::Spent),
+            None => Err(no_stream()),
+            Some(stream) if !stream.is_open => Err(stream.line(Answer::Misused(Misuse::Spent))),
             Some(stream) => Ok(stream),
         }
     }
 
-    // Returns the line of a command on stream `n` with this answer.
-    fn line(&self, n: usize, answer: Answer) -> Line
-        ensures answer { result.answer ≡ answer }
-        ensures position { position_of result.position ≡ stream_position (state_of self.now) n }
+    /// Parses a token of this kind from stream `n`.
+    #[inline(never)]
+    pub fn parse(&mut self, n: usize, kind: Kind) -> Result<Line, AllocError>
+        ensures { IfOk result
+            (λ l. IsLine l (state_of self.new) (state_of self.old)
+            (on n (commands.read (commands.parse (kind_of kind))))) }
     {
-        let position = match self.get(n) {
-            None => Position::Missing,
-            Some(stream) => stream.position(),
-        };
-        Line { answer, position }
+        match self.open(n) {
+            Ok(_) => self.list[n].parse(kind),
+            Err(line) => Ok(line),
+        }
     }
 
-    /// Runs a command that concerns only the stream that it names.
-    pub fn read(&mut self, command: &Command) -> Result<Line, AllocError>
-        requires { is_read (command_of command.now).action ≡ true }
-        ensures { IfOk result
-            (λ l. IsLine l (state_of self.new) (state_of self.old) (command_of command.now)) }
+    /// Runs another read on stream `n`, and returns its line.
+    #[inline(never)]
+    pub fn read<F>(&mut self, n: usize, read: F) -> Result<Line, AllocError>
+    where
+        F: FnOnce(ParseStream<'_, 'a>) -> syn_parse::Result<Answer>,
+        requires { F.IsAlwaysCallable read }
+        ensures { (r : StreamRead) → Reads r (FnOnceReturnsAtMut F.FnOnce read)
+            → IfOk result
+            (λ l. IsLine l (state_of self.new) (state_of self.old) (on n (commands.read r))) }
     {
-        let n = command.stream_number();
-        if n >= self.list.len() {
-            return Ok(Line {
-                answer: Answer::Misused(Misuse::NoStream),
-                position: Position::Missing,
-            });
-        }
-        let stream = &mut self.list[n];
-        if stream.is_open {
-            stream.read(command)
-        } else {
-            Ok(Line {
-                answer: Answer::Misused(Misuse::Spent),
-                position: stream.position(),
-            })
+        match self.open(n) {
+            Ok(_) => self.list[n].read(read),
+            Err(line) => Ok(line),
         }
     }
 
@@ -164,16 +161,24 @@ impl<'a> Streams<'a> {
     {
         let mut input = match self.open(n) {
             Ok(stream) => stream.paused.resume(),
-            Err(misuse) => return Ok(self.line(n, Answer::Misused(misuse))),
+            Err(line) => return Ok(line),
         };
-        match enter_group(&mut input, wanted) {
+        let entered = enter_group(&mut input, wanted);
+        let position = position_at(input.cursor());
+        match entered {
             Ok((delimiter, span, content)) => {
                 let number = self.add_content(n, content.pause(), input.pause())?;
-                Ok(self.line(n, Answer::Entered(number, delimiter, span)))
+                Ok(Line {
+                    answer: Answer::Entered(number, delimiter, span),
+                    position,
+                })
             }
             Err(fault) => {
                 input.discard();
-                Ok(self.line(n, refused(fault)?))
+                Ok(Line {
+                    answer: refused(fault)?,
+                    position,
+                })
             }
         }
     }
@@ -200,12 +205,16 @@ impl<'a> Streams<'a> {
     {
         let input = match self.open(n) {
             Ok(stream) => stream.paused.resume(),
-            Err(misuse) => return Ok(self.line(n, Answer::Misused(misuse))),
+            Err(line) => return Ok(line),
         };
+        let position = position_at(input.cursor());
         let fork = input.fork();
         input.discard();
         let number = self.add_fork(fork.pause())?;
-        Ok(self.line(n, Answer::Forked(number)))
+        Ok(Line {
+            answer: Answer::Forked(number),
+            position,
+        })
     }
 
     /// Returns stream `n` with the open groups inside it closed. The stored streams are unchanged.
@@ -244,15 +253,16 @@ impl<'a> Streams<'a> {
     pub fn discard(&mut self, n: usize) -> Line
         ensures { IsLine result (state_of self.new) (state_of self.old) (on n commands.discard) }
     {
-        let is_fork = match self.open(n) {
-            Ok(stream) => stream.is_fork(),
-            Err(misuse) => return self.line(n, Answer::Misused(misuse)),
+        let stream = match self.open(n) {
+            Ok(stream) => stream,
+            Err(line) => return line,
         };
-        if !is_fork {
-            return self.line(n, Answer::Misused(Misuse::NoFork));
+        if !stream.is_fork() {
+            return stream.line(Answer::Misused(Misuse::NoFork));
         }
+        let line = stream.line(Answer::Done);
         self.end(n);
-        self.line(n, Answer::Done)
+        line
     }
 
     /// Closes the group's stream `n`, and every open stream inside it. If a token is left over, the
@@ -261,19 +271,20 @@ impl<'a> Streams<'a> {
     pub fn close(&mut self, n: usize) -> Line
         ensures { IsLine result (state_of self.new) (state_of self.old) (on n commands.close) }
     {
-        let parent = match self.open(n) {
-            Ok(stream) => stream.parent,
-            Err(misuse) => return self.line(n, Answer::Misused(misuse)),
+        let stream = match self.open(n) {
+            Ok(stream) => stream,
+            Err(line) => return line,
         };
-        let Some(parent) = parent else {
-            return self.line(n, Answer::Misused(Misuse::NoContent));
+        let Some(parent) = stream.parent else {
+            return stream.line(Answer::Misused(Misuse::NoContent));
         };
+        let line = stream.line(Answer::Done);
         let content = self.gathered(n);
         let mut input = self.list[parent].paused.resume();
         input.close(content);
         self.move_to(parent, input.pause());
         self.end(n);
-        self.line(n, Answer::Done)
+        line
     }
 
     /// Returns `true` if stream `inner` was entered inside stream `outer`, at any depth.
@@ -299,28 +310,29 @@ impl<'a> Streams<'a> {
             (on n (commands.advance fork)) }
     {
         let (Some(stream), Some(other)) = (self.get(n), self.get(fork)) else {
-            return Line {
-                answer: Answer::Misused(Misuse::NoStream),
-                position: Position::Missing,
-            };
+            return no_stream();
         };
         if !stream.is_open || !other.is_open {
-            return self.line(n, Answer::Misused(Misuse::Spent));
+            return stream.line(Answer::Misused(Misuse::Spent));
         }
         if !other.is_fork() {
-            return self.line(n, Answer::Misused(Misuse::NoFork));
+            return stream.line(Answer::Misused(Misuse::NoFork));
         }
         let mut input = stream.paused.resume();
         let other = self.gathered(fork);
         if input.cursor().same_scope(other.cursor()) && !self.is_or_inside(fork, n) {
             input.advance_to(other);
+            let position = position_at(input.cursor());
             self.move_to(n, input.pause());
             self.end(fork);
-            self.line(n, Answer::Done)
+            Line {
+                answer: Answer::Done,
+                position,
+            }
         } else {
             input.discard();
             other.discard();
-            self.line(n, Answer::Misused(Misuse::OutOfScope))
+            stream.line(Answer::Misused(Misuse::OutOfScope))
         }
     }
 
@@ -330,6 +342,17 @@ impl<'a> Streams<'a> {
         ensures { result ≡ is_or_inside (state_of self.now) outer n }
     {
         n == outer || self.is_inside(outer, n)
+    }
+}
+
+// Returns the line of a command that names a stream that does not exist.
+fn no_stream() -> Line
+    ensures answer { result.answer ≡ answer.Misused NoStream }
+    ensures position { result.position ≡ position.Missing }
+{
+    Line {
+        answer: Answer::Misused(Misuse::NoStream),
+        position: Position::Missing,
     }
 }
 

@@ -3,8 +3,9 @@ use Rattle.std.specs.Prelude.{cond, Option}
 use Rattle.syn_parse.specs.Pauses.{paused_state}
 use Rattle.syn_parse.specs.State as parse
 use Rattle.syn_replay.specs.Commands as commands
-use Rattle.syn_replay.specs.Session.State.{content_of, is_open_at, kind_at, parse_state, stream_ended}
-use Rattle.syn_replay.specs.Session.Step.{is_content}
+use Rattle.syn_replay.specs.Session.State.{content_of, is_open_at, kind_at, moved_as, parse_state, printed_position}
+use Rattle.syn_replay.specs.Session.State.{stream_ended, with_stream}
+use Rattle.syn_replay.specs.Session.Step.{is_content, stream_position}
 use Rattle.syn_replay.specs.Session.Stream.{stream_kind, stream_of}
 use Rattle.syn_replay.specs.Session.Streams.{state_of}
 use Rattle.syn_replay.specs.declared.report.Answer.TheVariants as answer
@@ -16,6 +17,7 @@ use Rattle.syn_replay.proofs.Walk.Changes.{open_within}
 use Rattle.syn_replay.proofs.Walk.Closing.{closes_into, open_moved}
 use Rattle.syn_replay.proofs.Walk.Lines.{line_done}
 use Rattle.syn_replay.proofs.Walk.Links.{above_listed}
+use Rattle.syn_replay.proofs.Walk.Positions.{position_ended, position_open, position_other}
 use Rattle.syn_replay.proofs.Walk.Streams.{length-state, stream_there}
 use Rattle.syn_replay.specs.Session.Promises.{IsOpen}
 use Rattle.syn_replay.proofs.session.streams.Streams.close.Goals as goal
@@ -68,9 +70,14 @@ returns c =
     stream_there xs p c.index.result.now c.index.ensures (omega (arith, within, length-state xs)) in
     line_done n st commands.close refl (stream_of x) here
     (ap (λ k. cond {A = Option Misuse} (is_content k) None (Some NoContent)) of_parent)
-    answer.Done c.line-2.result (state_of c.end.new.self) c.line-2.ensures.answer (refl, tt)
+    answer.Done c.line-line.result (state_of c.end.new.self) c.line-line.ensures.answer (refl, tt)
     (c.end.ensures ∙ ap (stream_ended n) c.move_to.ensures
     ∙ closes_into st n p content (paused_state c.pause.result) of_parent c.gathered-content.ensures
     (c.pause.ensures ∙ c.close.ensures.closes
     ∙ ap (parse.closed content) (c.resume-input.ensures ∙ ap parse_state (sym there))))
-    c.line-2.ensures.position
+    (c.line-line.ensures.position ∙ ap (λ z. printed_position z.place) (sym here.0)
+    ∙ sym (ap (λ z. stream_position z n) (c.end.ensures ∙ ap (stream_ended n) c.move_to.ensures)
+    ∙ position_ended (with_stream st p (moved_as (paused_state c.pause.result))) n n
+    ∙ position_other st n p (moved_as (paused_state c.pause.result))
+    (λ q. omega (arith, q, above_listed xs s.listed n p of_parent))
+    ∙ position_open st n (open_within st n (ap (λ z. z.is_open) here.0 ∙ here.1))))
