@@ -63,8 +63,8 @@ pub fn peeks_tell_groups<const D: usize>()
     ensures { PeekTells ⟦<Visible<D> as Token>⟧.peeks (VisibleGroupParses {D = D}) }
 {}
 
-/// If a fork moves, or closes a group, and a stream then advances to the fork, the result is the
-/// same as if the stream had first advanced to the fork, and had then moved or closed the group.
+/// If a fork moves, or closes a group, a stream that then advances to the fork gets the same result
+/// as if it had advanced first, and had then done so itself.
 ///
 /// A new fork is at the position of its stream.
 pub fn forks_follow()

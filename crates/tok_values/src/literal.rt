@@ -125,14 +125,14 @@ pub trait LiteralExt {
 
     /// Returns the text between the quotes of a raw string literal without a suffix.
     ///
-    /// Returns `None` for any other literal. The text is borrowed from the literal, and the call
-    /// replaces nothing in it, not even CRLF.
+    /// Returns `None` for any other literal. The result is a part of the literal's own text, and
+    /// keeps each CRLF.
     fn raw_string_value(&self) -> Option<&str>;
 
     /// Returns the bytes between the quotes of a raw byte string literal without a suffix.
     ///
-    /// Returns `None` for any other literal. The bytes are borrowed from the literal, and the call
-    /// replaces nothing in them, not even CRLF.
+    /// Returns `None` for any other literal. The result is a part of the literal's own bytes, and
+    /// keeps each CRLF.
     fn raw_bytes_value(&self) -> Option<&[u8]>;
 
     /// Returns the character that a character literal without a suffix stands for.
