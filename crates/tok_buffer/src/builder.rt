@@ -48,6 +48,9 @@ const FEWEST_BYTES: usize = 1 << 8;
 
 const MOST_BYTES: usize = 1 << 18;
 
+// Few texts have more entries than one in so many bytes: those of inner groups count, too.
+const BYTES_AN_ENTRY: usize = 4;
+
 // Returns for how many entries a builder has room at first.
 fn first_room(bytes: usize) -> usize
     ensures share { 4 * result ≤ bytes }
@@ -56,7 +59,7 @@ fn first_room(bytes: usize) -> usize
     if bytes < FEWEST_BYTES {
         0
     } else {
-        bytes.min(MOST_BYTES) / 4
+        bytes.min(MOST_BYTES) / BYTES_AN_ENTRY
     }
 }
 
@@ -100,7 +103,7 @@ impl EntryBuilder {
         let mut entries = self.entries;
         entries.push(Entry::End(0))?;
         let room = entries.capacity();
-        if room >= FEWEST_BYTES / 4 && room / 2 > entries.len() {
+        if room >= FEWEST_BYTES / BYTES_AN_ENTRY && room / 2 > entries.len() {
             entries = entries.split_off(0)?;
         }
         Ok(entries)

@@ -14,6 +14,12 @@ use std::fmt::{Debug, Display, Formatter, Write};
 use std::marker::Model;
 use tok_core::{LexError, Span, ToTokens, TokenTree};
 
+// A string of at most so many bytes is copied where it would keep a spacious allocation.
+const SHORT: usize = 14;
+
+// An allocation of more bytes is spacious.
+const SPACIOUS: usize = 64;
+
 // The text of a message, in the string that it was written to: a message is on the heap, so a text
 // in place would save no room in an error.
 #[derive(Drop)]
@@ -81,11 +87,11 @@ impl Words {
         Words { string }
     }
 
-    // Keeps a string, or a copy of it if it is short and has much spare room.
+    // Keeps a string, or a copy of it if it is short and its allocation is spacious.
     fn kept(alloc: Global, string: String) -> Words
         ensures { result ≡ string_bytes string }
     {
-        if string.len() <= 14 && string.capacity() > 64 {
+        if string.len() <= SHORT && string.capacity() > SPACIOUS {
             if let Ok(copy) = String::from_str(alloc, string.as_str()) {
                 return Words::new(copy);
             }

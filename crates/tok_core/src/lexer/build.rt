@@ -111,6 +111,12 @@ const FEWEST_BYTES: usize = 1 << 8;
 
 const MOST_BYTES: usize = 1 << 18;
 
+// Few texts have more trees than one in so many bytes outside of all groups.
+const BYTES_A_TREE: usize = 16;
+
+// A vector that grows from nothing has room for so many trees at first.
+const FEWEST_TREES: usize = 4;
+
 // Returns for how many trees a builder has room at first.
 fn first_room(bytes: usize) -> usize
     ensures share { 16 * result ≤ bytes }
@@ -119,7 +125,7 @@ fn first_room(bytes: usize) -> usize
     if bytes < FEWEST_BYTES {
         0
     } else {
-        bytes.min(MOST_BYTES) / 16
+        bytes.min(MOST_BYTES) / BYTES_A_TREE
     }
 }
 
@@ -157,7 +163,7 @@ impl TreeBuilder {
             starts: _,
         } = self;
         let room = trees.capacity();
-        if room > 4 && room / 2 > trees.len() {
+        if room > FEWEST_TREES && room / 2 > trees.len() {
             trees = trees.split_off(0)?;
         }
         Ok(TokenStream::of_trees(alloc, trees))
