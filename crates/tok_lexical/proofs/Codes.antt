@@ -1,8 +1,8 @@
 -- Escapes by number.
-use Rattle.std.proofs.Common.{◌≡◌, ◌∙◌, ℕ, ◌+◌, ◌*◌, ◌≤◌, ◌<◌, inl, inr, List, [], ◌∷◌, ◌++◌}
-use Rattle.std.proofs.Common.{refl, sym, ap, subst, arith, append_assoc, true, false, Bool}
+use Rattle.std.proofs.Common.{◌≡◌, ℕ, ◌+◌, ◌*◌, ◌≤◌, ◌<◌, inl, inr, List, [], ◌∷◌, ◌++◌}
+use Rattle.std.proofs.Common.{refl, arith, append_assoc, true, false, Bool}
 use Rattle.std.specs.Prelude.{cond, fold, count_by, if◌then◌else◌, Option, Some, None, MatchOption}
-use Rattle.std.specs.Char.{is_digit, digit_value, IsScalar}
+use Rattle.std.specs.Char.{is_digit, digit_value}
 use Rattle.std.specs.Str.{chars}
 use Rattle.std.specs.Borrow.{Bor}
 use Rattle.std.proofs.Math.Utf8.{scalar_cases}
@@ -12,7 +12,7 @@ use Rattle.tok_lexical.specs.Private.Finds.{ReadsPrefix}
 use Rattle.tok_lexical.specs.Strings.{IsEscape, IsByte, is_byte, is_hex, is_hex_or_underscore}
 use Rattle.tok_lexical.specs.Strings.{hex_value, IsHex, NamesChar, IsCode, IsLineEnd}
 use Rattle.tok_lexical.proofs.Longest.{finds_after}
-use Rattle.tok_lexical.proofs.EscapedChars.{heads, tails, not_backslash}
+use Rattle.tok_lexical.proofs.EscapedChars.{not_backslash}
 use Rattle.tok_lexical.proofs.Digits.{all_stops}
 
 -- hexadecimal escapes
@@ -20,7 +20,7 @@ pub hex_found : (top high low : ℕ) (text third rest : List ℕ) → text ≡ h
     third ≡ low ∷ rest → is_digit high top ≡ true → is_digit low 16 ≡ true → (piece : List ℕ)
     × (text ≡ piece ++ rest) × IsHex top piece
 hex_found top high low text third rest e f a b =
-    (high ∷ low ∷ [], e ∙ ap (λ w. high ∷ w) f, (high, low, refl, a, b))
+    (high ∷ low ∷ [], cc, (high, low, refl, a, b))
 
 pub one_found : (p : ℕ → Bool) (text rest : List ℕ) (c : ℕ) → text ≡ c ∷ rest → p c ≡ true →
     (piece : List ℕ) × (text ≡ piece ++ rest) × IsOne p piece
@@ -35,15 +35,16 @@ pub long_line_finds : (text : List ℕ) (answer : Option (Bor (List ℕ))) →
     MatchOption answer ((more : List ℕ) → text ≡ 13 ∷ 10 ∷ more → ⊥)
     (λ rest. text ≡ 13 ∷ 10 ∷ chars rest.now) → ReadsPrefix IsLineEnd text answer
 long_line_finds text None a b = λ (piece, after, cut, h). elim h [
-  | inl e ↦ a after (cut ∙ ap (λ w. w ++ after) e)
-  | inr e ↦ b after
-      (cut ∙ ap (λ w. w ++ after) e)
+  | inl e ↦ a after (cc)
+  | inr e ↦ b after (cc)
 ]
 long_line_finds text (Some rest) a e = (13 ∷ 10 ∷ [], e, inr refl)
 
+-- the value so far after one more character
 abbrev pub value_step : ℕ → ℕ → ℕ
 value_step n c = if is_hex c then n * 16 + digit_value c else n
 
+-- the count of digits so far after one more character
 abbrev count_step : ℕ → ℕ → ℕ
 count_step n c = n + cond (is_hex c) 1 0
 
@@ -69,23 +70,16 @@ pub counts_digit : (all rest after : List ℕ) (value count c d : ℕ) →
     Counts all rest value count → rest ≡ c ∷ after → is_hex c ≡ true → d ≡ digit_value c →
     (count ≡ 6 → ⊥) → Counts all after (value * 16 + d) (count + 1)
 counts_digit all rest after value count c d s e h k f = record {
-  value_is = ap (λ n. fold value_step n after) (ap (λ n. value * 16 + n) k
-      ∙ sym (ap (λ b. if b then value * 16 + digit_value c else value) h))
-      ∙ ap (fold value_step value) (sym e) ∙ s.value_is;
-  count_is = ap (λ n. fold count_step n after) (sym (ap (λ b. count + cond b 1 0) h))
-      ∙ ap (fold count_step count) (sym e) ∙ s.count_is;
+  value_is = rw (k, ← s.value_is, e, h) refl;
+  count_is = rw (← s.count_is, e, h) refl;
   few = let g = s.few in omega arith;
 }
 
 pub counts_other : (all rest after : List ℕ) (value count c : ℕ) → Counts all rest value count →
     rest ≡ c ∷ after → is_hex c ≡ false → Counts all after value count
 counts_other all rest after value count c s e h = record {
-  value_is = ap (λ n. fold value_step n after)
-      (sym (ap (λ b. if b then value * 16 + digit_value c else value) h))
-      ∙ ap (fold value_step value) (sym e) ∙ s.value_is;
-  count_is = ap (λ n. fold count_step n after) (let z : count ≡ count + 0 = omega arith in
-      z ∙ sym (ap (λ b. count + cond b 1 0) h)) ∙ ap (fold count_step count) (sym e)
-      ∙ s.count_is;
+  value_is = rw (← s.value_is, e, h) refl;
+  count_is = let same : count + 0 ≡ count = omega arith in rw (← s.count_is, e, h, same) refl;
   few = s.few;
 }
 
@@ -93,31 +87,23 @@ pub too_many : (all rest after : List ℕ) (value count c : ℕ) → Counts all 
     rest ≡ c ∷ after → is_hex c ≡ true → count ≡ 6 → NamesChar all → ⊥
 too_many all rest after value count c s e h k n =
     let grown : count + 1 ≤ count_by is_hex all =
-    subst (λ w. count + 1 ≤ w)
-    (ap (λ m. fold count_step m after) (sym (ap (λ b. count + cond b 1 0) h))
-    ∙ ap (fold count_step count) (sym e) ∙ s.count_is) (count_grows (count + 1) after) in
+    rw (← s.count_is, e, h) (count_grows (count + 1) after) in
     let few = n.few in
     omega arith
 
 pub too_large : (all rest : List ℕ) (value count : ℕ) → Counts all rest value count →
     0x10_FFFF < value → NamesChar all → ⊥
 too_large all rest value count s l n =
-    let grown : value ≤ hex_value all = subst (λ w. value ≤ w) s.value_is
-    (value_grows value rest) in
+    let grown = rw s.value_is at (value_grows value rest) in
     elim (scalar_cases (hex_value all) n.scalar) [ inl e ↦ omega arith | inr e ↦ omega arith ]
 
 pub counts_all_digits : (all rest : List ℕ) (value count : ℕ) → Counts all rest value count →
     rest ≡ [] → (hex_value all ≡ value) × (count_by is_hex all ≤ 6)
 counts_all_digits all rest value count s e =
-    let v : hex_value all ≡ value = sym s.value_is ∙ ap (fold value_step value) e in
-    let k : count_by is_hex all ≡ count = sym s.count_is ∙ ap (fold count_step count) e in
+    let v : hex_value all ≡ value = rw (← s.value_is, e) refl in
+    let k : count_by is_hex all ≡ count = rw (← s.count_is, e) refl in
     let f = s.few in
     (v, omega arith)
-
-pub names_scalar : (all rest : List ℕ) (value count : ℕ) → Counts all rest value count → rest ≡ [] →
-    IsScalar value → NamesChar all
-names_scalar all rest value count s e h = let w = counts_all_digits all rest value count s e in
-    record { few = w.1; scalar = subst IsScalar (sym w.0) h }
 
 pub code_found : (text start second after rest digits : List ℕ) (first : ℕ) →
     text ≡ 123 ∷ start → start ≡ first ∷ second → is_digit first 16 ≡ true →
@@ -125,10 +111,7 @@ pub code_found : (text start second after rest digits : List ℕ) (first : ℕ) 
     NamesChar (first ∷ digits) → (piece : List ℕ) × (text ≡ piece ++ rest) × IsCode piece
 code_found text start second after rest digits first one two h s e n = (
   123 ∷ first ∷ (digits ++ 125 ∷ []),
-  one
-      ∙ ap (λ w. 123 ∷ w)
-      (two ∙ ap (λ w. first ∷ w) (s.cut ∙ ap (λ w. digits ++ w) e
-      ∙ sym (append_assoc digits (125 ∷ []) rest))),
+  cc (s.cut, append_assoc digits (125 ∷ []) rest),
   (first, digits, refl, h, s.pass, n),
 )
 
@@ -138,35 +121,21 @@ code_is : (text start second after digits : List ℕ) (first : ℕ) → text ≡
     HasPrefix IsCode text → (rest : List ℕ) × (is_digit first 16 ≡ true) × (after ≡ 125 ∷ rest)
     × NamesChar (first ∷ digits)
 code_is text start second after digits first one two s (piece, last, cut, (c, ds, f, h, all, n)) =
-    let whole : 123 ∷ first ∷ (digits ++ after) ≡ 123 ∷ c ∷ ((ds ++ 125 ∷ []) ++ last) =
-    sym (one ∙ ap (λ w. 123 ∷ w) (two ∙ ap (λ w. first ∷ w) s.cut)) ∙ cut
-    ∙ ap (λ w. w ++ last) f in
-    let second_is : first ∷ (digits ++ after) ≡ c ∷ ((ds ++ 125 ∷ []) ++ last) =
-    tails 123 123 _ _ whole in
-    let inner : digits ++ after ≡ ds ++ 125 ∷ last = tails first c _ _ second_is
-    ∙ append_assoc ds (125 ∷ []) last in
-    let same : first ≡ c = heads first c _ _ second_is in
+    let same : first ≡ c = cc in
     let w = all_stops is_hex_or_underscore digits ds after (125 ∷ last) s.pass all s.stops refl
-    inner in (
-      last,
-      ap is_hex same ∙ h,
-      w.1,
-      subst NamesChar (ap (λ v. v ∷ ds) (sym same)
-          ∙ ap (λ v. first ∷ v) (sym w.0)) n,
-    )
+    (cc (s.cut, append_assoc ds (125 ∷ []) last)) in
+    (last, rw same h, w.1, rw (same, w.0) n)
 
 -- bytes
 pub byte_escape : (text rest : List ℕ) (c : ℕ) (answer : Option (Bor (List ℕ))) →
     text ≡ c ∷ rest → c ≡ 92 → ReadsPrefix (IsEscape false true) rest answer →
     ReadsPrefix IsByte text answer
 byte_escape text rest c None one k misses = λ (piece, after, cut, h). elim h [
-  | inl (d, p, e) ↦ not_backslash d
-      (sym (heads c d rest after (sym one ∙ cut ∙ ap (λ w. w ++ after) e)) ∙ k) p
-  | inr s ↦ finds_after 92 (IsEscape false true) text rest None (one ∙ ap (λ w. w ∷ rest) k)
-      misses (piece, after, cut, s)
+  | inl (d, p, e) ↦ not_backslash d (cc) p
+  | inr s ↦ finds_after 92 (IsEscape false true) text rest None (cc) misses (piece, after, cut, s)
 ]
 byte_escape text rest c (Some last) one k (piece, cut, s) =
-    (92 ∷ piece, one ∙ ap (λ w. w ∷ rest) k ∙ ap (λ w. 92 ∷ w) cut, inr (piece, refl, s))
+    (92 ∷ piece, cc, inr (piece, refl, s))
 
 pub byte_plain : (text rest : List ℕ) (c : ℕ) → text ≡ c ∷ rest → is_byte c ≡ true →
     (piece : List ℕ) × (text ≡ piece ++ rest) × IsByte piece
@@ -184,11 +153,11 @@ pub code_unnamed : (text start second after digits named : List ℕ) (first : �
     after → named ≡ first ∷ digits → (NamesChar named → ⊥) → HasPrefix IsCode text → ⊥
 code_unnamed text start second after digits named first one two s e misses f =
     let w = code_is text start second after digits first one two s f in
-    misses (subst NamesChar (sym e) w.3)
+    misses (rw e w.3)
 
 pub code_front : (start second after digits : List ℕ) (first : ℕ) → start ≡ first ∷ second →
     Skips is_hex_or_underscore second digits after → start ≡ (first ∷ digits) ++ after
-code_front start second after digits first e s = e ∙ ap (λ w. first ∷ w) s.cut
+code_front start second after digits first e s = cc (s.cut)
 
 pub hex_from : (c d : ℕ) → (digit_value c < 16) × (d ≡ digit_value c) → is_hex c ≡ true
 hex_from c d (l, e) = lt-ltb (digit_value c) 16 l

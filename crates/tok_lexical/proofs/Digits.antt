@@ -1,11 +1,13 @@
 -- Digits and suffixes.
-use Rattle.std.proofs.Common.{◌≡◌, ◌∙◌, ℕ, inl, inr, List, [], ◌∷◌, ◌++◌, refl, sym, ap, subst}
-use Rattle.std.proofs.Common.{append_assoc, true, false, Bool}
-use Rattle.std.specs.Prelude.{◌==◌, ◌||◌, not, Option, Some, None, unwrap_or}
+use Rattle.std.proofs.Common.{◌≡◌, ◌∙◌, ℕ, inl, inr, List, [], ◌∷◌, ◌++◌, refl, sym, ap}
+use Rattle.std.proofs.Common.{append_assoc, true, false, Bool, arith}
+use Rattle.std.specs.Prelude.{◌==◌, ◌||◌, Option, Some, None, unwrap_or}
 use Rattle.std.specs.Str.{chars}
-use Rattle.std.specs.List.{list_all, list_any}
+use Rattle.std.specs.List.{list_all}
 use Rattle.std.specs.Char.{is_digit}
 use Rattle.std.specs.Borrow.{Bor}
+use Rattle.std.proofs.Math.Bool.{or-false}
+use Rattle.std.proofs.lemmas.List.Folds.{list_any-append}
 use Rattle.std.proofs.lemmas.List.{append-nil}
 use Rattle.std.proofs.lemmas.Bool.{false≢true, and_parts, or_left}
 use Rattle.tok_lexical.specs.Pieces.{IsLongestPrefix, HasPrefix, ReadsLongest, Skips, Stops, After}
@@ -15,17 +17,6 @@ use Rattle.tok_lexical.specs.Numbers.{base_mark, radix, IsBased, is_digit_or_und
 use Rattle.tok_lexical.specs.Numbers.{starts_digit, starts_number_suffix, IsNumberSuffix, IsRun}
 use Rattle.tok_lexical.specs.Numbers.{IsNumber, has_digit}
 use Rattle.tok_lexical.proofs.Longest.{no_more, list_all_push, tries_after, fronts}
-use Rattle.tok_lexical.proofs.EscapedChars.{heads, tails}
-
-list_any_push : (p : ℕ → Bool) (xs : List ℕ) (c : ℕ) → list_any p (xs ++ c ∷ [])
-    ≡ (list_any p xs || p c)
-list_any_push p [] c = elim (p c) as (λ b. (b || false) ≡ (false || b))
-    [ true ↦ refl | false ↦ refl ]
-list_any_push p (x ∷ xs) c =
-    elim (p x) as (λ b. (b || list_any p (xs ++ c ∷ [])) ≡ ((b || list_any p xs) || p c)) [
-      | true ↦ refl
-      | false ↦ list_any_push p xs c
-    ]
 
 -- one more digit or underscore
 pub digits_more : (n : ℕ) (text mid rest front : List ℕ) (c : ℕ) (found more : Bool) →
@@ -36,10 +27,9 @@ pub digits_more : (n : ℕ) (text mid rest front : List ℕ) (c : ℕ) (found mo
     × ((found || more) ≡ has_digit n longer)
 digits_more n text mid rest front c found more e a h g p m = (
   front ++ c ∷ [],
-  e ∙ ap (λ w. front ++ w) g ∙ sym (append_assoc front (c ∷ []) rest),
+  cc (append_assoc front (c ∷ []) rest),
   list_all_push (is_digit_or_underscore n) front c a p,
-  ap (λ w. w || more) h
-      ∙ ap (λ w. has_digit n front || w) m ∙ sym (list_any_push (λ d. is_digit d n) front c),
+  rw (h, m, list_any-append, or-false) refl,
 )
 
 pub head_passes : (p : ℕ → Bool) (c : ℕ) (xs : List ℕ) → list_all p (c ∷ xs) ≡ true → p c ≡ true
@@ -54,28 +44,21 @@ pub all_stops : (p : ℕ → Bool) (xs ys a b : List ℕ) → list_all p xs ≡ 
     ≡ true → Stops p a → Stops p b → xs ++ a ≡ ys ++ b → (xs ≡ ys) × (a ≡ b)
 all_stops p [] [] a b h k s t e = (refl, e)
 all_stops p [] (d ∷ ys) [] b h k s t e = cc
-all_stops p [] (d ∷ ys) (c ∷ a) b h k s t e =
-    absurd (false≢true (sym s ∙ ap p (heads c d a (ys ++ b) e) ∙ head_passes p d ys k))
+all_stops p [] (d ∷ ys) (c ∷ a) b h k s t e = grind arith
 all_stops p (c ∷ xs) [] a [] h k s t e = cc
-all_stops p (c ∷ xs) [] a (d ∷ b) h k s t e =
-    absurd (false≢true (sym t ∙ ap p (sym (heads c d (xs ++ a) b e)) ∙ head_passes p c xs h))
+all_stops p (c ∷ xs) [] a (d ∷ b) h k s t e = grind arith
 all_stops p (c ∷ xs) (d ∷ ys) a b h k s t e =
-    let w = all_stops p xs ys a b (tail_passes p c xs h) (tail_passes p d ys k) s t
-    (tails c d (xs ++ a) (ys ++ b) e) in
-    (ap (λ v. v ∷ xs) (heads c d (xs ++ a) (ys ++ b) e) ∙ ap (λ v. d ∷ v) w.0, w.1)
+    let w = all_stops p xs ys a b (tail_passes p c xs h) (tail_passes p d ys k) s t (cc) in
+    (cc, w.1)
 
 stops_front : (p : ℕ → Bool) (xs ys : List ℕ) → Stops p (xs ++ ys) → Stops p xs
 stops_front p [] ys s = tt
 stops_front p (x ∷ xs) ys s = s
 
-suffix_parts : (x y : Bool) → not (x || y) ≡ true → x ≡ false
-suffix_parts true y h = absurd (false≢true h)
-suffix_parts false y h = refl
-
 pub suffix_stops : (n : ℕ) (suffix : List ℕ) → IsNumberSuffix n suffix →
     Stops (is_digit_or_underscore n) suffix
 suffix_stops n [] s = tt
-suffix_stops n (c ∷ suffix) (s, w) = suffix_parts (is_digit_or_underscore n c) _ s
+suffix_stops n (c ∷ suffix) (s, w) = grind arith
 
 -- digits, and what follows them
 module _ (n : ℕ) (good : List ℕ → Bool) (Tail : List ℕ → Type 0) where
@@ -86,16 +69,15 @@ module _ (n : ℕ) (good : List ℕ → Bool) (Tail : List ℕ → Type 0) where
   takes_run stops text rest last digits tail s g t = (
     digits ++ tail,
     record {
-      cut = s.cut ∙ ap (λ w. digits ++ w) t.cut ∙ sym (append_assoc digits tail last);
+      cut = cc (s.cut, t.cut, append_assoc digits tail last);
       spelled = (digits, tail, refl, s.pass, g, t.spelled);
       longest = λ more after e (ds, other, f, a, g', k).
           let here : Stops (is_digit_or_underscore n) ((tail ++ more) ++ after) =
-          subst (Stops (is_digit_or_underscore n)) (t.cut ∙ ap (λ w. tail ++ w) e
-          ∙ sym (append_assoc tail more after)) s.stops in
+          rw (append_assoc tail more after, ← e, ← t.cut) s.stops in
           let w = all_stops (is_digit_or_underscore n) digits ds (tail ++ more) other s.pass a
           (stops_front (is_digit_or_underscore n) (tail ++ more) after here)
           (stops other k) (sym (append_assoc digits tail more) ∙ f) in
-          t.longest more after e (subst Tail (sym w.1) k);
+          t.longest more after e (rw w.1 k);
     },
   )
 
@@ -104,14 +86,12 @@ module _ (n : ℕ) (good : List ℕ → Bool) (Tail : List ℕ → Type 0) where
       Skips (is_digit_or_underscore n) text digits rest → good digits ≡ false →
       HasPrefix (IsRun n good Tail) text → ⊥
   none_run text rest digits grows s bad (piece, after, cut, (ds, other, f, a, g, k)) =
-      elim (fronts ds digits (other ++ after) rest (sym (append_assoc ds other after)
-      ∙ ap (λ w. w ++ after) (sym f) ∙ sym cut ∙ s.cut)) [
+      elim (fronts ds digits (other ++ after) rest (cc (s.cut, append_assoc ds other after))) [
         | inl (m, e, r) ↦ false≢true (sym bad ∙ ap good e ∙ grows ds m g)
         | inr (m, e, r) ↦
             let none : m ≡ [] = no_more (is_digit_or_underscore n) rest m (other ++ after) digits
-            s.stops r (ap (list_all (is_digit_or_underscore n)) (sym e) ∙ a) in
-            false≢true (sym bad
-            ∙ ap good (sym (e ∙ ap (λ w. digits ++ w) none ∙ append-nil digits)) ∙ g)
+            s.stops r (rw e at a) in
+            false≢true (sym bad ∙ ap good (cc (append-nil digits)) ∙ g)
       ]
 
   -- what follows has a first character, which is none of them
@@ -122,38 +102,29 @@ module _ (n : ℕ) (good : List ℕ → Bool) (Tail : List ℕ → Type 0) where
       ReadsLongest Tail rest answer → ReadsLongest (IsRun n good Tail) text answer
   tries_run apart text rest digits None s g misses = λ (piece, after, cut, (ds, tail, f, a, g', k)).
       let h = apart tail k in
-      let stops : Stops (is_digit_or_underscore n) (tail ++ after) =
-      subst (λ w. Stops (is_digit_or_underscore n) (w ++ after)) (sym h.2) h.3 in
+      let stops : Stops (is_digit_or_underscore n) (tail ++ after) = rw h.2 h.3 in
       let w = all_stops (is_digit_or_underscore n) digits ds rest (tail ++ after) s.pass a
-      s.stops stops (sym s.cut ∙ cut ∙ ap (λ v. v ++ after) f
-      ∙ append_assoc ds tail after) in
+      s.stops stops (cc (s.cut, append_assoc ds tail after)) in
       misses (tail, after, w.1, k)
   tries_run apart text rest digits (Some last) s g (tail, t) =
-      takes_run (λ other k. let h = apart other k in subst (Stops (is_digit_or_underscore n))
-      (sym h.2) h.3) text rest (chars last.now) digits tail s g t
+      takes_run (λ other k. let h = apart other k in rw h.2 h.3) text rest (chars last.now) digits
+      tail s g t
 
 pub digit_grows : (n : ℕ) (xs ys : List ℕ) → has_digit n xs ≡ true → has_digit n (xs ++ ys) ≡ true
-digit_grows n [] ys h = absurd (false≢true h)
-digit_grows n (x ∷ xs) ys h =
-    elim (is_digit x n) as (λ b. (b || has_digit n xs) ≡ true → (b || has_digit n (xs ++ ys))
-    ≡ true) [
-      | true ↦ λ k. refl
-      | false ↦ λ k. digit_grows n xs ys k
-    ] h
+digit_grows n xs ys h = rw (list_any-append, h) refl
 
 pub none_decimal : (Tail : List ℕ → Type 0) (text : List ℕ) → starts_digit text ≡ false →
     HasPrefix (IsRun 10 starts_digit Tail) text → ⊥
 none_decimal Tail text bad (piece, after, cut, ([], sf, f, a, g, k)) = false≢true g
 none_decimal Tail text bad (piece, after, cut, (d ∷ ds, sf, f, a, g, k)) =
-    false≢true (sym bad ∙ ap starts_digit (cut ∙ ap (λ w. w ++ after) f) ∙ g)
+    false≢true (sym bad ∙ rw (cut, f) g)
 
 pub digits_start : (text rest digits : List ℕ) → Skips (is_digit_or_underscore 10) text digits
     rest → starts_digit text ≡ true → starts_digit digits ≡ true
-digits_start text [] [] s g = absurd (false≢true (sym (ap starts_digit s.cut) ∙ g))
+digits_start text [] [] s g = absurd (false≢true (rw s.cut at g))
 digits_start text (c ∷ rest) [] s g =
-    absurd (false≢true (sym s.stops ∙ or_left (is_digit c 10) (c == 95)
-    (sym (ap starts_digit s.cut) ∙ g)))
-digits_start text rest (d ∷ digits) s g = sym (ap starts_digit s.cut) ∙ g
+    absurd (false≢true (sym s.stops ∙ or_left (is_digit c 10) (c == 95) (rw s.cut at g)))
+digits_start text rest (d ∷ digits) s g = rw s.cut at g
 
 pub takes_no_suffix : (n : ℕ) (text : List ℕ) → ((piece after : List ℕ) → text ≡ piece ++ after →
     IsNumberSuffix n piece → piece ≡ []) → IsLongestPrefix (IsNumberSuffix n) text [] text
@@ -165,9 +136,7 @@ pub no_suffix_start : (n : ℕ) (text tail : List ℕ) (c : ℕ) → text ≡ c 
     IsNumberSuffix n piece → piece ≡ []
 no_suffix_start n text tail c one bad [] after e s = refl
 no_suffix_start n text tail c one bad (d ∷ piece) after e s =
-    absurd (false≢true
-    (sym bad ∙ ap (starts_number_suffix n) (heads c d tail (piece ++ after) (sym one ∙ e))
-    ∙ s.0))
+    let same : c ≡ d = cc in absurd (false≢true (sym bad ∙ ap (starts_number_suffix n) same ∙ s.0))
 
 pub no_suffix_word : (n : ℕ) (text : List ℕ) → (HasPrefix IsIdentifier text → ⊥) →
     (piece after : List ℕ) → text ≡ piece ++ after → IsNumberSuffix n piece → piece ≡ []
@@ -180,12 +149,7 @@ number_word : (n c : ℕ) (tail text word rest : List ℕ) → text ≡ c ∷ ta
 number_word n c tail text [] rest one starts taken = absurd taken.spelled
 number_word n c tail text (d ∷ word) rest one starts taken = record {
   cut = taken.cut;
-  spelled = (
-    sym
-        (ap (starts_number_suffix n) (heads c d tail (word ++ rest) (sym one ∙ taken.cut)))
-        ∙ starts,
-    taken.spelled,
-  );
+  spelled = (let same : d ≡ c = cc (taken.cut) in rw same starts, taken.spelled);
   longest = λ more after e s. taken.longest more after e s.1;
 }
 
@@ -206,7 +170,7 @@ pub based_tries : (base : Base) (mark n : ℕ) (text rest : List ℕ)
     ReadsLongest (IsBased base) text answer
 based_tries base mark n text rest answer m e r t =
     tries_after 48 (After (base_mark base) (IsNumber (radix base) (has_digit (radix base)))) text
-    (base_mark base ∷ rest) answer (e ∙ ap (λ w. 48 ∷ w ∷ rest) m)
+    (base_mark base ∷ rest) answer (rw (← m) e)
     (tries_after (base_mark base) (IsNumber (radix base) (has_digit (radix base)))
     (base_mark base ∷ rest) rest answer refl
-    (subst (λ w. ReadsLongest (IsNumber w (has_digit w)) rest answer) r t))
+    (rw r at t))

@@ -1,11 +1,10 @@
 -- Doc comments.
-use Rattle.std.proofs.Common.{◌≡◌, ◌∙◌, ℕ, zero, suc, ◌+◌, ◌-◌, ◌<◌, get_or, List, [], ◌∷◌, ◌++◌}
+use Rattle.std.proofs.Common.{◌≡◌, ◌∙◌, ℕ, zero, suc, ◌-◌, ◌<◌, get_or, List, [], ◌∷◌, ◌++◌}
 use Rattle.std.proofs.Common.{length, length-append, take, refl, sym, ap, arith, true, false, Bool}
 use Rattle.std.specs.Str.{chars}
-use Rattle.std.specs.Prelude.{◌==◌, ◌||◌}
 use Rattle.std.proofs.lemmas.Bool.{false≢true, false_from_ne_true}
 use Rattle.tok_lexical.specs.Contents.{has_return}
-use Rattle.tok_lexical.specs.Docs.{after_mark, breaks_line, is_bare, line_doc_text}
+use Rattle.tok_lexical.specs.Docs.{after_mark, breaks_line, line_doc_text}
 use Rattle.tok_lexical.specs.Pieces.{after_first, from_first, up_to}
 use Rattle.std.proofs.Math.Seq.{take-append_seam}
 use Rattle.std.proofs.lemmas.Str.{chars-IsAscii}
@@ -13,37 +12,32 @@ use Rattle.std.proofs.lemmas.Str.Ascii.{IsAscii-nil}
 use Rattle.tok_lexical.specs.Comments.{Closes, done, nested, ended, plain, IsBlockComment}
 use Rattle.tok_lexical.specs.Comments.{is_block_doc}
 
-or_parts : (p q : Bool) → (p || q) ≡ false → (p ≡ false) × (q ≡ false)
-or_parts true q h = absurd (false≢true (sym h))
-or_parts false q h = (refl, h)
-
 -- a block comment ends with its mark
 closes_end : (n : ℕ) (body : List ℕ) → Closes (suc n) body → (front : List ℕ)
     × (body ≡ front ++ 42 ∷ 47 ∷ [])
 closes_end n body (nested {text = text} c) = let w = closes_end (suc n) text c in
-    (47 ∷ 42 ∷ w.0, ap (λ v. 47 ∷ 42 ∷ v) w.1)
+    (47 ∷ 42 ∷ w.0, cc (w.1))
 closes_end zero body (ended {text = text} done) = ([], refl)
 closes_end (suc n) body (ended {text = text} c) = let w = closes_end n text c in
-    (42 ∷ 47 ∷ w.0, ap (λ v. 42 ∷ 47 ∷ v) w.1)
+    (42 ∷ 47 ∷ w.0, cc (w.1))
 closes_end n body (plain {c = c} {text = text} p k) = let w = closes_end n text k in
-    (c ∷ w.0, ap (λ v. c ∷ v) w.1)
+    (c ∷ w.0, cc (w.1))
 
 pub block_end : (piece : List ℕ) → IsBlockComment piece → is_block_doc piece ≡ true → (c : ℕ)
     × (front : List ℕ) × (piece ≡ 47 ∷ 42 ∷ c ∷ (front ++ 42 ∷ 47 ∷ []))
-block_end piece (body, e, k) doc = let w = closes_end 0 body k in
-    go w.0 (e ∙ ap (λ v. 47 ∷ 42 ∷ v) w.1)
+block_end piece (body, e, k) doc = let w = closes_end 0 body k in go w.0 (cc (w.1))
   where
     go : (front : List ℕ) → piece ≡ 47 ∷ 42 ∷ (front ++ 42 ∷ 47 ∷ []) → (c : ℕ)
         × (front : List ℕ) × (piece ≡ 47 ∷ 42 ∷ c ∷ (front ++ 42 ∷ 47 ∷ []))
-    go [] f = absurd (false≢true (sym (ap is_block_doc f) ∙ doc))
+    go [] f = absurd (false≢true (rw f at doc))
     go (c ∷ front) f = (c, front, f)
 
 pub without_end : (text front : List ℕ) → text ≡ front ++ 42 ∷ 47 ∷ [] →
     take (length text - 2) text ≡ front
 without_end text front e =
-    let l : length text ≡ length front + 2 = ap length e ∙ length-append front (42 ∷ 47 ∷ []) in
-    let m : length text - 2 ≡ length front = omega arith in
-    ap (λ n. take n text) m ∙ ap (take (length front)) e ∙ take-append_seam front (42 ∷ 47 ∷ [])
+    let m : length text - 2 ≡ length front =
+    omega (arith, ap length e, length-append front (42 ∷ 47 ∷ [])) in
+    rw (m, e) (take-append_seam front (42 ∷ 47 ∷ []))
 
 mark_ascii : (i : ℕ) → get_or (42 ∷ 47 ∷ []) i 0 < 128
 mark_ascii zero = omega arith
@@ -61,19 +55,17 @@ no_return b text may none =
 
 no_return_after : (text : List ℕ) → has_return text ≡ false → has_return (after_first text) ≡ false
 no_return_after [] h = h
-no_return_after (c ∷ rest) h = (or_parts (c == 13) (has_return rest) h).1
+no_return_after (c ∷ rest) h = grind arith
 
 -- is its own front up to one, and has none to begin at
 pub whole_up_to : (text : List ℕ) → has_return text ≡ false → (up_to 13 text ≡ text)
     × (from_first 13 text ≡ [])
 whole_up_to [] h = (refl, refl)
 whole_up_to (c ∷ rest) h =
-    let both = or_parts (c == 13) (has_return rest) h in
-    let more = whole_up_to rest both.1 in
-    (rw both.0 (ap (λ w. c ∷ w) more.0), rw both.0 more.1)
+    let more = whole_up_to rest in grind (arith, more)
 
 pub never_breaks : (text after : List ℕ) → has_return text ≡ false → breaks_line text after ≡ false
-never_breaks text after h = ap (λ w. is_bare w after) (whole_up_to text h).1
+never_breaks text after h = rw (whole_up_to text h).1 refl
 
 pub whole_doc_text : (piece : List ℕ) → has_return piece ≡ false → after_mark piece
     ≡ line_doc_text piece

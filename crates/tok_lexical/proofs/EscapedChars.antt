@@ -1,6 +1,6 @@
 -- No escape begins another.
 use Rattle.std.proofs.Common.{◌≡◌, ◌∙◌, ℕ, ◌<◌, inl, inr, List, [], ◌∷◌, ◌++◌, refl, sym, ap}
-use Rattle.std.proofs.Common.{subst, arith, append_assoc, true, false, Bool, ◌⊎◌}
+use Rattle.std.proofs.Common.{arith, append_assoc, true, false, Bool}
 use Rattle.std.specs.Prelude.{Option, Some, None, if◌then◌else◌}
 use Rattle.std.specs.Borrow.{Bor}
 use Rattle.std.specs.List.{list_all}
@@ -20,133 +20,84 @@ heads a b x y e = cc
 pub tails : (a b : ℕ) (x y : List ℕ) → a ∷ x ≡ b ∷ y → x ≡ y
 tails a b x y e = cc
 
-pub fronts_swap : (a b p q x y : List ℕ) → a ≡ p → b ≡ q → a ++ x ≡ b ++ y → p ++ x ≡ q ++ y
-fronts_swap a b p q x y e f g = ap (λ w. w ++ x) (sym e) ∙ g ∙ ap (λ w. w ++ y) f
-
 pub free_one : (p : ℕ → Bool) → IsFree (IsOne p)
-free_one p a b (c, h, e) (d, k, f) x y g =
-    let whole : c ∷ x ≡ d ∷ y = fronts_swap a b (c ∷ []) (d ∷ []) x y e f g in
-    (e ∙ ap (λ w. w ∷ []) (heads c d x y whole) ∙ sym f, tails c d x y whole)
+free_one p a b (c, h, e) (d, k, f) x y g = (cc, cc)
 
 pub free_after : (k : ℕ) (S : List ℕ → Type 0) → IsFree S → IsFree (After k S)
 free_after k S free a b (more, e, s) (other, f, t) x y g =
-    let whole : k ∷ (more ++ x) ≡ k ∷ (other ++ y) =
-    fronts_swap a b (k ∷ more) (k ∷ other) x y e f g in
-    let w = free more other s t x y (tails k k (more ++ x) (other ++ y) whole) in
-    (e ∙ ap (λ v. k ∷ v) w.0 ∙ sym f, w.1)
+    let w = free more other s t x y (cc) in (cc, w.1)
 
 -- characters that pass, up to one that doesn't
 pub all_stop : (p : ℕ → Bool) (k : ℕ) (xs ys x y : List ℕ) → p k ≡ false → list_all p xs ≡ true →
     list_all p ys ≡ true → xs ++ k ∷ x ≡ ys ++ k ∷ y → (xs ≡ ys) × (x ≡ y)
-all_stop p k [] [] x y n a b e = (refl, tails k k x y e)
-all_stop p k [] (d ∷ ys) x y n a b e =
-    absurd (false≢true (sym n ∙ ap p (heads k d x (ys ++ k ∷ y) e)
-    ∙ (and_parts (p d) (list_all p ys) b).0))
-all_stop p k (c ∷ xs) [] x y n a b e =
-    absurd (false≢true (sym n ∙ ap p (sym (heads c k (xs ++ k ∷ x) y e))
-    ∙ (and_parts (p c) (list_all p xs) a).0))
+all_stop p k [] [] x y n a b e = (refl, cc)
+all_stop p k [] (d ∷ ys) x y n a b e = grind arith
+all_stop p k (c ∷ xs) [] x y n a b e = grind arith
 all_stop p k (c ∷ xs) (d ∷ ys) x y n a b e =
     let w = all_stop p k xs ys x y n (and_parts (p c) (list_all p xs) a).1
-    (and_parts (p d) (list_all p ys) b).1 (tails c d (xs ++ k ∷ x) (ys ++ k ∷ y) e) in
-    (ap (λ v. v ∷ xs) (heads c d (xs ++ k ∷ x) (ys ++ k ∷ y) e) ∙ ap (λ v. d ∷ v) w.0, w.1)
+    (and_parts (p d) (list_all p ys) b).1 (cc) in
+    (cc, w.1)
 
 free_hex : (top : ℕ) → IsFree (IsHex top)
-free_hex top a b (h, l, e, s, t) (h', l', f, s', t') x y g =
-    let whole : h ∷ l ∷ x ≡ h' ∷ l' ∷ y = fronts_swap a b (h ∷ l ∷ []) (h' ∷ l' ∷ []) x y e f g in
-    let inner : l ∷ x ≡ l' ∷ y = tails h h' (l ∷ x) (l' ∷ y) whole in (
-      e ∙ ap (λ w. w ∷ l ∷ []) (heads h h' (l ∷ x) (l' ∷ y) whole)
-          ∙ ap (λ w. h' ∷ w ∷ []) (heads l l' x y inner) ∙ sym f,
-      tails l l' x y inner,
-    )
+free_hex top a b (h, l, e, s, t) (h', l', f, s', t') x y g = (cc, cc)
 
 free_code : IsFree IsCode
 free_code a b (c, ds, e, h, all, n) (c', ds', f, h', all', n') x y g =
-    let whole : 123 ∷ c ∷ ((ds ++ 125 ∷ []) ++ x) ≡ 123 ∷ c' ∷ ((ds' ++ 125 ∷ []) ++ y) =
-    fronts_swap a b (123 ∷ c ∷ (ds ++ 125 ∷ [])) (123 ∷ c' ∷ (ds' ++ 125 ∷ [])) x y e f g in
-    let second : c ∷ ((ds ++ 125 ∷ []) ++ x) ≡ c' ∷ ((ds' ++ 125 ∷ []) ++ y) =
-    tails 123 123 _ _ whole in
-    let inner : (ds ++ 125 ∷ []) ++ x ≡ (ds' ++ 125 ∷ []) ++ y = tails c c' _ _ second in
     let w = all_stop is_hex_or_underscore 125 ds ds' x y refl all all'
-    (sym (append_assoc ds (125 ∷ []) x) ∙ inner ∙ append_assoc ds' (125 ∷ []) y) in (
-      e ∙ ap (λ v. 123 ∷ v ∷ (ds ++ 125 ∷ [])) (heads c c' _ _ second)
-          ∙ ap (λ v. 123 ∷ c' ∷ (v ++ 125 ∷ [])) w.0 ∙ sym f,
-      w.1,
-    )
+    (cc (append_assoc ds (125 ∷ []) x, append_assoc ds' (125 ∷ []) y)) in
+    (cc, w.1)
 
 free_line_end : IsFree IsLineEnd
-free_line_end a b (inl e) (inl f) x y g =
-    (e ∙ sym f, tails 10 10 x y (fronts_swap a b (10 ∷ []) (10 ∷ []) x y e f g))
-free_line_end a b (inl e) (inr f) x y g =
-    absurd (omega
-    (arith, heads 10 13 x (10 ∷ y) (fronts_swap a b (10 ∷ []) (13 ∷ 10 ∷ []) x y e f g)))
-free_line_end a b (inr e) (inl f) x y g =
-    absurd (omega
-    (arith, heads 13 10 (10 ∷ x) y (fronts_swap a b (13 ∷ 10 ∷ []) (10 ∷ []) x y e f g)))
-free_line_end a b (inr e) (inr f) x y g = (
-  e ∙ sym f,
-  tails 10 10 x y
-      (tails 13 13 (10 ∷ x) (10 ∷ y) (fronts_swap a b (13 ∷ 10 ∷ []) (13 ∷ 10 ∷ []) x y e f g)),
-)
+free_line_end a b v w x y g = grind arith
 
-no_simple : (c k : ℕ) → c ≡ k → is_simple_escape k ≡ false → is_simple_escape c ≡ true → ⊥
-no_simple c k e n s = false≢true (sym n ∙ ap is_simple_escape (sym e) ∙ s)
-
--- the head of a line end is neither
-line_head : (a : List ℕ) (k : ℕ) (x y : List ℕ) → IsLineEnd a → k ∷ x ≡ a ++ y → (k ≡ 10) ⊎ (k ≡ 13)
-line_head a k x y (inl e) g = inl (heads k 10 x y (g ∙ ap (λ w. w ++ y) e))
-line_head a k x y (inr e) g = inr (heads k 13 x (10 ∷ y) (g ∙ ap (λ w. w ++ y) e))
-
+-- a line end begins with no character that a simple escape may have, nor with a letter
 line_simple : (a : List ℕ) (k : ℕ) (x y : List ℕ) → is_simple_escape k ≡ true → IsLineEnd a →
     k ∷ x ≡ a ++ y → ⊥
-line_simple a k x y s l g = elim (line_head a k x y l g)
-    [ inl e ↦ no_simple k 10 e refl s | inr e ↦ no_simple k 13 e refl s ]
+line_simple a k x y s l g = grind arith
 
 line_other : (a : List ℕ) (k : ℕ) (x y : List ℕ) → 100 < k → IsLineEnd a → k ∷ x ≡ a ++ y → ⊥
-line_other a k x y s l g = elim (line_head a k x y l g)
-    [ inl e ↦ omega arith | inr e ↦ omega arith ]
+line_other a k x y s l g = grind arith
 
 free_escape : (le wide : Bool) → IsFree (IsEscape le wide)
 free_escape le wide a b v w x y g = go v w x y g
   where
     go : {a b : List ℕ} → IsEscape le wide a → IsEscape le wide b → (x y : List ℕ) →
         a ++ x ≡ b ++ y → (a ≡ b) × (x ≡ y)
-    go (simple c s) (simple d r) x y e = (ap (λ v. v ∷ []) (heads c d x y e), tails c d x y e)
-    go (simple c s) (hex h) x y e = absurd (no_simple c 120 (heads _ _ _ _ e) refl s)
-    go (simple c s) (code n h) x y e = absurd (no_simple c 117 (heads _ _ _ _ e) refl s)
+    go (simple c s) (simple d r) x y e = (cc, cc)
+    go (simple c s) (hex h) x y e = absurd (grind arith)
+    go (simple c s) (code n h) x y e = absurd (grind arith)
     go {b = b} (simple c s) (line_end l h) x y e = absurd (line_simple b c x y s h e)
-    go (hex h) (simple d r) x y e = absurd (no_simple d 120 (sym (heads _ _ _ _ e)) refl r)
+    go (hex h) (simple d r) x y e = absurd (grind arith)
     go (hex {text = t} h) (hex {text = u} k) x y e =
-        let w = free_hex _ t u h k x y (tails 120 120 _ _ e) in (ap (λ v. 120 ∷ v) w.0, w.1)
-    go (hex h) (code n k) x y e = absurd (omega (arith, heads 120 117 _ _ e))
-    go {b = b} (hex {text = t} h) (line_end l k) x y e =
-        absurd (line_other b 120 (t ++ x) y (omega arith) k e)
-    go (code n h) (simple d r) x y e = absurd (no_simple d 117 (sym (heads _ _ _ _ e)) refl r)
-    go (code n h) (hex k) x y e = absurd (omega (arith, heads 117 120 _ _ e))
+        let w = free_hex _ t u h k x y (cc) in (cc, w.1)
+    go (hex h) (code n k) x y e = absurd (grind arith)
+    go {b = b} (hex h) (line_end l k) x y e = absurd (line_other b 120 _ y (omega arith) k e)
+    go (code n h) (simple d r) x y e = absurd (grind arith)
+    go (code n h) (hex k) x y e = absurd (grind arith)
     go (code {text = t} n h) (code {text = u} m k) x y e =
-        let w = free_code t u h k x y (tails 117 117 _ _ e) in (ap (λ v. 117 ∷ v) w.0, w.1)
-    go {b = b} (code {text = t} n h) (line_end l k) x y e =
-        absurd (line_other b 117 (t ++ x) y (omega arith) k e)
+        let w = free_code t u h k x y (cc) in (cc, w.1)
+    go {b = b} (code n h) (line_end l k) x y e = absurd (line_other b 117 _ y (omega arith) k e)
     go {a = a} (line_end l h) (simple d r) x y e = absurd (line_simple a d y x r h (sym e))
-    go {a = a} (line_end l h) (hex {text = t} k) x y e =
-        absurd (line_other a 120 (t ++ y) x (omega arith) h (sym e))
-    go {a = a} (line_end l h) (code {text = t} n k) x y e =
-        absurd (line_other a 117 (t ++ y) x (omega arith) h (sym e))
+    go {a = a} (line_end l h) (hex k) x y e =
+        absurd (line_other a 120 _ x (omega arith) h (sym e))
+    go {a = a} (line_end l h) (code n k) x y e =
+        absurd (line_other a 117 _ x (omega arith) h (sym e))
     go {a = a} {b = b} (line_end l h) (line_end m k) x y e = free_line_end a b h k x y e
 
 -- an escape of bytes doesn't begin with a `u`
 wide_code : (le : Bool) (a : List ℕ) (k : ℕ) (x y : List ℕ) → k ≡ 117 → IsEscape le true a →
     k ∷ x ≡ a ++ y → ⊥
-wide_code le a k x y u (simple c s) e = no_simple c 117 (sym (heads _ _ _ _ e) ∙ u) refl s
-wide_code le a k x y u (hex h) e = absurd (let w = heads _ _ _ _ e in omega arith)
+wide_code le a k x y u (simple c s) e = absurd (grind arith)
+wide_code le a k x y u (hex h) e = absurd (let w : k ≡ 120 = cc in omega arith)
 wide_code le a k x y u (code n h) e = absurd (false≢true (sym n))
 wide_code le a k x y u (line_end l h) e = line_other a k x y (omega arith) h e
 
 free_c_escape : IsFree IsCEscape
 free_c_escape a b (inl v) (inl w) x y g = free_escape true true a b v w x y g
 free_c_escape a b (inl v) (inr (more, f, t)) x y g =
-    absurd (wide_code true a 117 (more ++ y) x refl v (sym (g ∙ ap (λ w. w ++ y) f)))
+    absurd (wide_code true a 117 (more ++ y) x refl v (cc))
 free_c_escape a b (inr (more, f, t)) (inl w) x y g =
-    absurd (wide_code true b 117 (more ++ x) y refl w (sym (ap (λ w. w ++ x) f) ∙ g))
+    absurd (wide_code true b 117 (more ++ x) y refl w (cc))
 free_c_escape a b (inr v) (inr w) x y g = free_after 117 IsCode free_code a b v w x y g
 
 pub free_string_escape : (kind : Contents) → IsFree (EscapeOf kind)
@@ -158,19 +109,16 @@ pub finds_c_code : (text rest : List ℕ) (answer : Option (Bor (List ℕ))) →
     ReadsPrefix IsCode rest answer → ReadsPrefix IsCEscape text answer
 finds_c_code text rest None e misses = λ (piece, after, cut, h). elim h [
   | inl v ↦ wide_code true piece 117 rest after refl v (sym e ∙ cut)
-  | inr v ↦ finds_after 117
-      IsCode text rest None e misses (piece, after, cut, v)
+  | inr v ↦ finds_after 117 IsCode text rest None e misses (piece, after, cut, v)
 ]
-finds_c_code text rest (Some last) e (piece, cut, v) =
-    (117 ∷ piece, e ∙ ap (λ w. 117 ∷ w) cut, inr (piece, refl, v))
+finds_c_code text rest (Some last) e (piece, cut, v) = (117 ∷ piece, cc, inr (piece, refl, v))
 
 pub finds_c_other : (text : List ℕ) (answer : Option (Bor (List ℕ))) →
     ((more : List ℕ) → text ≡ 117 ∷ more → ⊥) → ReadsPrefix (IsEscape true true) text answer →
     ReadsPrefix IsCEscape text answer
 finds_c_other text None n misses = λ (piece, after, cut, h). elim h [
   | inl v ↦ misses (piece, after, cut, v)
-  | inr (more, f, v) ↦ n (more ++ after)
-      (cut ∙ ap (λ w. w ++ after) f)
+  | inr (more, f, v) ↦ n (more ++ after) (cc)
 ]
 finds_c_other text (Some last) n (piece, cut, v) = (piece, cut, inl v)
 
@@ -182,11 +130,8 @@ not_backslash c e h = false≢true (ap is_byte (sym e) ∙ h)
 
 pub free_byte : IsFree IsByte
 free_byte a b (inl s) (inl t) x y g = free_one is_byte a b s t x y g
-free_byte a b (inl (c, h, e)) (inr (more, f, t)) x y g =
-    absurd (not_backslash c (heads c 92 _ _ (fronts_swap a b (c ∷ []) (92 ∷ more) x y e f g)) h)
-free_byte a b (inr (more, f, t)) (inl (c, h, e)) x y g =
-    absurd (not_backslash c
-    (sym (heads 92 c _ _ (fronts_swap a b (92 ∷ more) (c ∷ []) x y f e g))) h)
+free_byte a b (inl (c, h, e)) (inr (more, f, t)) x y g = absurd (not_backslash c (cc) h)
+free_byte a b (inr (more, f, t)) (inl (c, h, e)) x y g = absurd (not_backslash c (cc) h)
 free_byte a b (inr s) (inr t) x y g = free_after 92 (IsEscape false true)
     (free_escape false true) a b s t x y g
 
@@ -197,11 +142,10 @@ none_escape : (le wide : Bool) (kind : ℕ) (rest piece after : List ℕ) → is
     (le ≡ true → HasPrefix IsLineEnd (kind ∷ rest) → ⊥) → IsEscape le wide piece →
     kind ∷ rest ≡ piece ++ after → ⊥
 none_escape le wide kind rest piece after n a b c (simple d s) e =
-    false≢true (sym n ∙ ap is_simple_escape (heads kind d rest after e) ∙ s)
-none_escape le wide kind rest piece after n a b c (hex {text = t} h) e =
-    a (heads kind 120 rest (t ++ after) e) (t, after, tails kind 120 rest (t ++ after) e, h)
+    let same : kind ≡ d = cc in false≢true (sym n ∙ ap is_simple_escape same ∙ s)
+none_escape le wide kind rest piece after n a b c (hex {text = t} h) e = a (cc) (t, after, cc, h)
 none_escape le wide kind rest piece after n a b c (code {text = t} w h) e =
-    b (heads kind 117 rest (t ++ after) e) w (t, after, tails kind 117 rest (t ++ after) e, h)
+    b (cc) w (t, after, cc, h)
 none_escape le wide kind rest piece after n a b c (line_end l h) e = c l (piece, after, e, h)
 
 no_line : (kind : ℕ) (rest : List ℕ) → 100 < kind → HasPrefix IsLineEnd (kind ∷ rest) → ⊥
@@ -216,13 +160,9 @@ module _ (le wide : Bool) (text rest : List ℕ) (kind : ℕ) (one : text ≡ ki
       is_simple_escape kind ≡ false → kind ≡ 120 → ReadsPrefix (IsHex top) rest answer →
       ReadsPrefix (IsEscape le wide) text answer
   finds_hex None top t n k misses = λ (piece, after, cut, v). none_escape le wide kind rest piece
-      after n (λ _ f. misses (subst (λ w. HasPrefix (IsHex w) rest) (sym t) f))
-      (λ e. absurd (omega arith)) (λ _ f. no_line kind rest (omega arith) f) v (sym one ∙ cut)
-  finds_hex (Some after) top t n k (piece, cut, v) = (
-    120 ∷ piece,
-    one ∙ ap (λ w. w ∷ rest) k ∙ ap (λ w. 120 ∷ w) cut,
-    hex (subst (λ w. IsHex w piece) t v),
-  )
+      after n (λ _ f. misses (rw t f)) (λ e. absurd (omega arith))
+      (λ _ f. no_line kind rest (omega arith) f) v (sym one ∙ cut)
+  finds_hex (Some after) top t n k (piece, cut, v) = (120 ∷ piece, cc, hex (rw t at v))
 
   pub finds_code : (answer : Option (Bor (List ℕ))) → wide ≡ false → is_simple_escape kind
       ≡ false → kind ≡ 117 → ReadsPrefix IsCode rest answer → ReadsPrefix (IsEscape le wide) text
@@ -230,13 +170,11 @@ module _ (le wide : Bool) (text rest : List ℕ) (kind : ℕ) (one : text ≡ ki
   finds_code None w n k misses = λ (piece, after, cut, v). none_escape le wide kind rest piece
       after n (λ e. absurd (omega arith)) (λ _ _ f. misses f)
       (λ _ f. no_line kind rest (omega arith) f) v (sym one ∙ cut)
-  finds_code (Some after) w n k (piece, cut, v) =
-      (117 ∷ piece, one ∙ ap (λ w. w ∷ rest) k ∙ ap (λ w. 117 ∷ w) cut, code w v)
+  finds_code (Some after) w n k (piece, cut, v) = (117 ∷ piece, cc, code w v)
 
   pub finds_line : (answer : Option (Bor (List ℕ))) → le ≡ true → is_simple_escape kind ≡ false →
       (kind ≡ 120 → ⊥) → (kind ≡ 117 → ⊥) → ReadsPrefix IsLineEnd text answer →
       ReadsPrefix (IsEscape le wide) text answer
   finds_line None l n a b misses = λ (piece, after, cut, v). none_escape le wide kind rest piece
-      after n (λ e. absurd (a e)) (λ e. absurd (b e))
-      (λ _ f. misses (subst (λ w. HasPrefix IsLineEnd w) (sym one) f)) v (sym one ∙ cut)
+      after n (λ e. absurd (a e)) (λ e. absurd (b e)) (λ _ f. misses (rw one f)) v (sym one ∙ cut)
   finds_line (Some after) l n a b (piece, cut, v) = (piece, cut, line_end l v)

@@ -1,24 +1,22 @@
 -- The rule that decides, from what each try answered.
-use Rattle.std.proofs.Common.{rules, tests, ◌≡◌, ◌∙◌, ◌++◌, refl, sym, ℕ, zero, suc, ◌+◌, ◌<◌}
-use Rattle.std.proofs.Common.{◌≤◌, inl, inr, List, [], ◌∷◌, length, get_or, ap, arith, subst}
+use Rattle.std.proofs.Common.{rules, tests, ◌≡◌, ◌∙◌, ◌++◌, refl, sym, ℕ, zero, suc, ◌+◌, ◌<◌, ◌≤◌}
+use Rattle.std.proofs.Common.{inl, inr, List, [], ◌∷◌, length, get_or, ap, arith, length-append}
 use Rattle.std.proofs.lemmas.List.{get_or_default}
 use Rattle.std.proofs.lemmas.List.Elements.{filter-append}
-use Rattle.std.proofs.lemmas.Bool.{cases_eq, false≢true, and_parts}
+use Rattle.std.proofs.lemmas.Bool.{cases_eq, cond_both, false≢true, and_parts}
 use Rattle.std.specs.Prelude.{◌==◌, Bool, true, false, cond, filter}
 use Rattle.std.specs.Char.{is_digit}
 use Rattle.std.specs.List.{list_all}
-use Rattle.tok_lexical.specs.Pieces.{HasPrefix, IsLongestPrefix, IsOne}
-use Rattle.tok_lexical.specs.Fits.{NoneBefore}
-use Rattle.tok_lexical.specs.Private.Starts.{start_of}
+use Rattle.tok_lexical.specs.Pieces.{HasPrefix, IsLongestPrefix, IsOne, Skips}
+use Rattle.tok_lexical.specs.Fits.{NoneBefore, IsFirstFit, here, later}
+use Rattle.tok_lexical.specs.Private.Starts.{start_of, beginning}
 use Rattle.tok_lexical.specs.Starts.{is_prefix}
-use Rattle.tok_lexical.specs.Rules.{all_rules, among, is_in, last_rules, rules_of}
-use Rattle.tok_lexical.specs.Private.Starts.{beginning}
-use Rattle.tok_lexical.specs.Rules.{Spells}
-use Rattle.tok_lexical.specs.Fits.{IsFirstFit, here, later}
+use Rattle.tok_lexical.specs.Rules.{all_rules, among, is_in, last_rules, rules_of, Spells}
 use Rattle.tok_lexical.specs.declared.rule.Mode.{Mode}
 use Rattle.tok_lexical.specs.declared.rule.Rule.{Rule}
 use Rattle.tok_lexical.specs.declared.rule.Rule.TheVariants.{Opening, Closing, Identifier}
-use Rattle.tok_lexical.specs.declared.rule.Rule.TheVariants.{LineComment, Punct, QuotedString, BadString, Other}
+use Rattle.tok_lexical.specs.declared.rule.Rule.TheVariants.{LineComment, Punct, QuotedString}
+use Rattle.tok_lexical.specs.declared.rule.Rule.TheVariants.{BadString, Other}
 use Rattle.tok_lexical.specs.declared.contents.Contents.TheVariants.{Text}
 use Rattle.tok_lexical.specs.Comments.{IsLineComment}
 use Rattle.tok_lexical.specs.Strings.{IsString}
@@ -27,7 +25,6 @@ use Rattle.tok_lexical.specs.Words.{is_identifier_start, IsIdentifier}
 use Rattle.tok_lexical.specs.declared.start.Start.{Start}
 use Rattle.tok_lexical.specs.declared.start.Start.TheVariants as start
 use Rattle.tok_lexical.specs.declared.delimiter.Delimiter.TheVariants as delimiter
-use Rattle.tok_lexical.specs.Pieces.{Skips}
 use Rattle.unicode_ident.specs.Ident.{is_xid_continue}
 use Rattle.tok_lexical.proofs.Identifiers.{takes_identifier}
 use Rattle.tok_lexical.proofs.Longest.{takes_one}
@@ -49,9 +46,7 @@ pub none_more : (rules : List Rule) (text : List ℕ) (i : ℕ) (d : Rule) → i
 none_more rules text i d l before misses = record {
   none = λ j q k m fits.
       elim (cases_eq j i) [
-        | inl same ↦ misses
-            (subst (λ r. HasPrefix (Spells r) text) (ap (λ n. get_or rules n q) same
-            ∙ get_or_default rules i q d l) fits)
+        | inl same ↦ misses (rw (same, get_or_default rules i q d l) at fits)
         | inr other ↦ before.none j q (omega arith) m fits
       ];
 }
@@ -65,13 +60,11 @@ none_at_all rules text i l before =
 pub none_fits : (rules : List Rule) (text : List ℕ) (n : ℕ) → text ≡ [] → NoneBefore rules text n
 none_fits rules text n e =
     record {
-      none = λ j d k m fits. nothing (get_or rules j d) fits.0 fits.1 (sym e ∙ fits.2)
-          (spelled_one (get_or rules j d) fits.0 fits.3);
+      none = λ j d k m fits.
+          let some = spelled_one (get_or rules j d) fits.0 fits.3 in
+          let whole = ap length (sym e ∙ fits.2) in
+          absurd (omega (arith, some, whole, length-append fits.0 fits.1));
     }
-  where
-    nothing : (rule : Rule) (piece after : List ℕ) → [] ≡ piece ++ after → 0 < length piece → ⊥
-    nothing rule [] after e l = absurd (omega arith)
-    nothing rule (x ∷ piece) after e l = cc
 
 -- the rules behind a list of others
 pub fits_front : (those others : List Rule) (text piece rest : List ℕ) (rule : Rule) →
@@ -93,31 +86,12 @@ fits_behind (r ∷ those) others text piece rest rule none d =
 one_misses : (p : ℕ → Bool) (text more : List ℕ) (c : ℕ) → text ≡ c ∷ more → p c ≡ false →
     HasPrefix (IsOne p) text → ⊥
 one_misses p text more c e h (piece, after, cut, (d, pass, f)) =
-    let whole : c ∷ more ≡ d ∷ after = sym e ∙ cut ∙ ap (λ w. w ++ after) f in
-    let same : c ≡ d = cc in
-    false≢true (sym h ∙ ap p same ∙ pass)
+    let same : c ≡ d = cc in false≢true (sym h ∙ ap p same ∙ pass)
 
 -- those that may begin so
 begun_are : (k : Start) → filter (λ r. may_begin r k) all_rules ≡ beginning k
 unfolding all_rules
-begun_are start.Rest = refl
-begun_are start.Whitespace = refl
-begun_are start.Zero = refl
-begun_are start.Digit = refl
-begun_are start.Prefix = refl
-begun_are start.Letter = refl
-begun_are start.Slash = refl
-begun_are start.Quote = refl
-begun_are start.Apostrophe = refl
-begun_are (start.Opening delimiter.Parenthesis) = refl
-begun_are (start.Opening delimiter.Brace) = refl
-begun_are (start.Opening delimiter.Bracket) = refl
-begun_are (start.Opening delimiter.None) = refl
-begun_are (start.Closing delimiter.Parenthesis) = refl
-begun_are (start.Closing delimiter.Brace) = refl
-begun_are (start.Closing delimiter.Bracket) = refl
-begun_are (start.Closing delimiter.None) = refl
-begun_are start.Punct = refl
+begun_are k = grind arith
 
 -- by the rules of a mode
 module _ (mode : Mode) {text piece rest : List ℕ} {rule : Rule} where
@@ -125,12 +99,8 @@ module _ (mode : Mode) {text piece rest : List ℕ} {rule : Rule} where
   skip : (r : Rule) (those : List Rule) → (HasPrefix (Spells r) text → ⊥) →
       IsFirstFit text (among mode those) rule piece rest →
       IsFirstFit text (among mode (r ∷ those)) rule piece rest
-  skip r those misses d = go (is_in mode r)
-    where
-      go : (b : Bool) → IsFirstFit text (cond b (r ∷ among mode those) (among mode those)) rule
-          piece rest
-      go true = later misses d
-      go false = d
+  skip r those misses d = cond_both (is_in mode r) (r ∷ among mode those) (among mode those)
+      (λ w. IsFirstFit text w rule piece rest) (λ e. later misses d) (λ e. d)
 
   -- rules that pass a test, of which none fits
   pub skip_all : (p : Rule → Bool) → ((r : Rule) → p r ≡ true → HasPrefix (Spells r) text → ⊥) →
@@ -146,8 +116,7 @@ module _ (mode : Mode) {text piece rest : List ℕ} {rule : Rule} where
       IsFirstFit text (among mode those) rule piece rest →
       IsFirstFit text (among mode (those ++ others)) rule piece rest
   fits_before those others d =
-      subst (λ w. IsFirstFit text w rule piece rest)
-      (sym (filter-append (is_in mode) those others))
+      rw (filter-append (is_in mode) those others)
       (fits_front (among mode those) (among mode others) text piece rest rule d)
 
   pick : (r : Rule) (some those : List Rule) (b : Bool) →
@@ -182,15 +151,14 @@ module _ (mode : Mode) {text piece rest : List ℕ} {rule : Rule} where
       IsFirstFit text (among mode (beginning k)) rule piece rest →
       IsFirstFit text (rules_of mode) rule piece rest
   decides_begun c more k e is d = fits_among k all_rules (λ r fits.
-      sym (ap (may_begin r) is) ∙ begins r c more (subst (HasPrefix (Spells r)) e fits))
-      (subst (λ w. IsFirstFit text (among mode w) rule piece rest) (sym (begun_are k)) d)
+      rw (← is) (begins r c more (rw e at fits))) (rw (begun_are k) d)
 
   -- the same of a list that is theirs
   pub decides_listed : (c : ℕ) (more : List ℕ) (k : Start) (those : List Rule) → text ≡ c ∷ more →
       start_of c ≡ k → those ≡ among mode (beginning k) → IsFirstFit text those rule piece rest →
       IsFirstFit text (rules_of mode) rule piece rest
   decides_listed c more k those e is listed d =
-      decides_begun c more k e is (subst (λ w. IsFirstFit text w rule piece rest) listed d)
+      decides_begun c more k e is (rw listed at d)
 
 -- a text that none of the others takes, by the last three rules
 module _ (c : ℕ) (text more : List ℕ) (e : text ≡ c ∷ more) where
@@ -228,10 +196,7 @@ agrees c start.Punct = is_punct c
 agrees c other = true
 
 pub told : (c : ℕ) (k : Start) → start_of c ≡ k → agrees c k ≡ true
-told c k is = sym (ap (agrees c) is) ∙ all_agree
-  where
-    all_agree : agrees c (start_of c) ≡ true
-    all_agree = search (rules, tests)
+told c k is = rw (← is) (search (rules, tests))
 
 -- the rule that a start tells alone, of a piece of one character
 abbrev pub told_rule : Start → Rule
@@ -240,6 +205,7 @@ told_rule (start.Opening d) = Opening d
 told_rule (start.Closing d) = Closing d
 told_rule k = Other
 
+-- the character tells its piece, which is this character alone
 abbrev tells_one : Start → Bool
 tells_one start.Punct = true
 tells_one (start.Opening d) = true

@@ -1,5 +1,5 @@
 -- One rule takes the front of a text.
-use Rattle.std.proofs.Common.{◌≡◌, ℕ, ◌<◌, List, [], ◌∷◌, ◌++◌, length, refl, arith}
+use Rattle.std.proofs.Common.{◌≡◌, ℕ, List, [], ◌∷◌, length, length-append, ap, refl, arith}
 use Rattle.std.specs.Prelude.{Bool, true, false, cond}
 use Rattle.tok_lexical.specs.Pieces.{IsLongestPrefix}
 use Rattle.tok_lexical.specs.Fits.{IsFirstFit, here, later}
@@ -28,11 +28,7 @@ pub decides_nothing : {rules : List Rule} {rule : Rule} {p r : List ℕ} →
 decides_nothing {rule = rule} {p = p} {r = r} d =
     let t = fits_longest d in
     let one = spelled_one rule p t.spelled in
-    elim p as (λ w. [] ≡ w ++ r → 0 < length w → ⊥) [
-      | [] ↦ λ e l. absurd (omega arith)
-      | x
-          ∷ w ↦ λ e l. cc
-    ] t.cut one
+    omega (arith, one, ap length t.cut, length-append p r)
 
 -- the rule that takes the front is one of the mode's
 first_in : {text piece rest : List ℕ} (mode : Mode) (q rule : Rule) (some : List Rule) (b : Bool) →

@@ -1,10 +1,10 @@
 -- Floats: digits and what follows them.
 use Rattle.std.proofs.Common.{◌≡◌, ◌∙◌, ◌⊎◌, ℕ, inl, inr, List, [], ◌∷◌, ◌++◌, refl, sym, ap}
-use Rattle.std.proofs.Common.{subst, arith, append_assoc, true, false, Bool}
-use Rattle.std.specs.Prelude.{◌==◌, ◌||◌, Option, Some, None, MatchOption}
+use Rattle.std.proofs.Common.{arith, append_assoc, true, false}
+use Rattle.std.specs.Prelude.{◌==◌, Option, Some, None, MatchOption}
 use Rattle.std.specs.Borrow.{Bor}
 use Rattle.std.specs.Str.{chars}
-use Rattle.std.proofs.lemmas.Bool.{false≢true, eqb-true}
+use Rattle.std.proofs.lemmas.Bool.{false≢true, eqb-true, or_cases}
 use Rattle.tok_lexical.specs.Pieces.{HasPrefix, IsLongestPrefix, ReadsLongest, Stops, After}
 use Rattle.tok_lexical.specs.Pieces.{after_first}
 use Rattle.tok_lexical.specs.Words.{IsSuffix}
@@ -13,7 +13,6 @@ use Rattle.tok_lexical.specs.Numbers.{IsNumberSuffix, IsDecimal}
 use Rattle.tok_lexical.specs.Floats.{IsExponentSuffix, IsExponentDigits, IsSigned, IsExponent}
 use Rattle.tok_lexical.specs.Floats.{IsScaled, IsFraction, IsFloatTail}
 use Rattle.tok_lexical.proofs.Longest.{tries_after, either_first, either_second}
-use Rattle.tok_lexical.proofs.EscapedChars.{heads, tails}
 use Rattle.tok_lexical.proofs.Digits.{all_stops, suffix_stops, head_passes}
 
 pub exponent_suffix_stops : (suffix : List ℕ) → IsExponentSuffix suffix →
@@ -37,8 +36,7 @@ exponent_suffix text suffix last s t = record {
     head_stops : (whole : List ℕ) (c : ℕ) (xs : List ℕ) → Stops (is_digit_or_underscore 10) whole →
         whole ≡ c ∷ xs → is_digit_or_underscore 10 c ≡ false
     head_stops [] c xs h e = cc
-    head_stops (d ∷ whole) c xs h e =
-        sym (ap (is_digit_or_underscore 10) (heads d c whole xs e)) ∙ h
+    head_stops (d ∷ whole) c xs h e = let same : c ≡ d = cc in rw same h
 
     suits_exponent : (xs : List ℕ) → text ≡ xs ++ last → IsSuffix xs → IsExponentSuffix xs
     suits_exponent [] e k = tt
@@ -50,19 +48,16 @@ digits_head : (k : ℕ) (text : List ℕ) → is_digit_or_underscore 10 k ≡ fa
     HasPrefix IsExponentDigits (k ∷ text) → ⊥
 digits_head k text n (piece, after, cut, ([], tail, e, a, g, t)) = false≢true g
 digits_head k text n (piece, after, cut, (d ∷ ds, tail, e, a, g, t)) =
-    let same : k ≡ d = heads k d text ((ds ++ tail) ++ after) (cut ∙ ap (λ w. w ++ after) e) in
-    false≢true (sym n ∙ ap (is_digit_or_underscore 10) same
-    ∙ head_passes (is_digit_or_underscore 10) d ds a)
+    let same : k ≡ d = cc in
+    false≢true (sym n ∙ rw same (head_passes (is_digit_or_underscore 10) d ds a))
 
 after_head : (j k : ℕ) (S : List ℕ → Type 0) (text rest : List ℕ) → text ≡ k ∷ rest →
     (j ≡ k → ⊥) → HasPrefix (After j S) text → ⊥
-after_head j k S text rest e n (piece, after, cut, (more, f, s)) =
-    n (heads j k (more ++ after) rest (sym (cut ∙ ap (λ w. w ++ after) f) ∙ e))
+after_head j k S text rest e n (piece, after, cut, (more, f, s)) = n (cc)
 
 no_after : (j : ℕ) (S : List ℕ → Type 0) (text : List ℕ) →
     ((more : List ℕ) → text ≡ j ∷ more → ⊥) → HasPrefix (After j S) text → ⊥
-no_after j S text n (piece, after, cut, (more, f, s)) =
-    n (more ++ after) (cut ∙ ap (λ w. w ++ after) f)
+no_after j S text n (piece, after, cut, (more, f, s)) = n (more ++ after) (cc)
 
 pub signed_plus : (text rest : List ℕ) (answer : Option (Bor (List ℕ))) → text ≡ 43 ∷ rest →
     ReadsLongest IsExponentDigits rest answer → ReadsLongest IsSigned text answer
@@ -104,12 +99,7 @@ tries_exponent (c ∷ text) rest None h e misses = λ (piece, after, cut, k). no
   where
     none : (piece after : List ℕ) → c ∷ text ≡ piece ++ after → IsExponent piece → ⊥
     none [] after cut k = k
-    none (d ∷ piece) after cut k = misses (
-      piece,
-      after,
-      e ∙ tails c d text (piece ++ after) cut,
-      k.1,
-    )
+    none (d ∷ piece) after cut k = misses (piece, after, cc, k.1)
 tries_exponent (c ∷ text) rest (Some last) h e (piece, t) = (
   c ∷ piece,
   record {
@@ -125,11 +115,8 @@ no_exponent text h (d ∷ piece, after, cut, k) = false≢true (sym h ∙ ap is_
 
 exponent_apart : (c : ℕ) (more : List ℕ) → is_exponent (c ∷ more) ≡ true →
     is_digit_or_underscore 10 c ≡ false
-exponent_apart c more h = go (c == 101) refl h
-  where
-    go : (b : Bool) → (c == 101) ≡ b → b || (c == 69) ≡ true → is_digit_or_underscore 10 c ≡ false
-    go true e k = ap (is_digit_or_underscore 10) (eqb-true c 101 e)
-    go false e k = ap (is_digit_or_underscore 10) (eqb-true c 69 k)
+exponent_apart c more h = elim (or_cases (c == 101) (c == 69) h)
+    [ inl e ↦ rw (eqb-true c 101 e) refl | inr e ↦ rw (eqb-true c 69 e) refl ]
 
 pub exponent_begins : (tail : List ℕ) → IsExponent tail → (c : ℕ) × (more : List ℕ)
     × (tail ≡ c ∷ more) × (is_digit_or_underscore 10 c ≡ false)
@@ -149,28 +136,22 @@ point_begins tail e = (46, [], e, refl)
 scaled_decimal : (piece more : List ℕ) → IsScaled piece → IsDecimal (piece ++ more) → ⊥
 scaled_decimal piece more (ds, tail, e, a, g, k) (other, suffix, f, b, g', s) =
     let h = exponent_begins tail k in
-    let stops : Stops (is_digit_or_underscore 10) (tail ++ more) =
-    subst (λ w. Stops (is_digit_or_underscore 10) (w ++ more)) (sym h.2) h.3 in
+    let stops : Stops (is_digit_or_underscore 10) (tail ++ more) = rw h.2 h.3 in
     let w = all_stops (is_digit_or_underscore 10) ds other (tail ++ more) suffix a b stops
-    (suffix_stops 10 suffix s) (sym (append_assoc ds tail more)
-    ∙ ap (λ v. v ++ more) (sym e) ∙ f) in
+    (suffix_stops 10 suffix s) (cc (append_assoc ds tail more)) in
     clash tail suffix k w.1 s
   where
     starts_no_suffix : (c : ℕ) (rest : List ℕ) → is_exponent (c ∷ rest) ≡ true →
         starts_number_suffix 10 c ≡ false
-    starts_no_suffix c rest h = go (c == 101) refl h
-      where
-        go : (p : Bool) → (c == 101) ≡ p → p || (c == 69) ≡ true → starts_number_suffix 10 c ≡ false
-        go true e k = ap (starts_number_suffix 10) (eqb-true c 101 e)
-        go false e k = ap (starts_number_suffix 10) (eqb-true c 69 k)
+    starts_no_suffix c rest h = grind arith
 
     clash : (tail suffix : List ℕ) → IsExponent tail → tail ++ more ≡ suffix →
         IsNumberSuffix 10 suffix → ⊥
     clash [] suffix k e s = k
     clash (c ∷ tail) [] k e s = cc
     clash (c ∷ tail) (d ∷ suffix) k e s =
-        false≢true (sym (starts_no_suffix c tail k.0)
-        ∙ ap (starts_number_suffix 10) (heads c d (tail ++ more) suffix e) ∙ s.0)
+        let same : c ≡ d = cc in
+        false≢true (sym (starts_no_suffix c tail k.0) ∙ ap (starts_number_suffix 10) same ∙ s.0)
 
 pub fraction_scaled : (text piece rest : List ℕ) → IsLongestPrefix IsScaled text piece rest →
     IsLongestPrefix IsFraction text piece rest
@@ -204,12 +185,12 @@ tail_exponent text answer n t = either_second (After 46 IsFraction) IsExponent t
 pub tries_point : (text : List ℕ) (answer : Option (Bor (List ℕ))) →
     MatchOption answer ((more : List ℕ) → text ≡ 46 ∷ more → ⊥)
     (λ rest. text ≡ 46 ∷ chars rest.now) → ReadsLongest (λ tail. tail ≡ 46 ∷ []) text answer
-tries_point text None n = λ (piece, after, cut, e). n after (cut ∙ ap (λ w. w ++ after) e)
+tries_point text None n = λ (piece, after, cut, e). n after (cc)
 tries_point text (Some rest) e = (
   46 ∷ [],
   record {
     cut = e;
     spelled = refl;
-    longest = λ more after f g. tails 46 46 more [] g;
+    longest = λ more after f g. cc;
   },
 )

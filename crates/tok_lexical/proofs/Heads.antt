@@ -1,29 +1,29 @@
 -- How the spelling of a rule begins.
-use Rattle.std.proofs.Common.{rules, tests, ◌≡◌, ◌∙◌, ◌++◌, refl, ℕ, ◌<◌, inl, inr, List, []}
-use Rattle.std.proofs.Common.{◌∷◌, length, ap, arith}
+use Rattle.std.proofs.Common.{rules, tests, ◌≡◌, ◌∙◌, ◌++◌, refl, ℕ, ◌<◌, inl, inr, List, [], ◌∷◌}
+use Rattle.std.proofs.Common.{length, ap, arith}
 use Rattle.std.proofs.lemmas.Bool.{false≢true, eqb-true}
 use Rattle.std.specs.Prelude.{◌==◌, Bool, true, false}
 use Rattle.tok_lexical.specs.Pieces.{HasPrefix, IsOne}
 use Rattle.tok_lexical.specs.Private.Starts.{start_of}
 use Rattle.tok_lexical.specs.Rules.{Spells}
 use Rattle.tok_lexical.specs.declared.rule.Rule.{Rule}
-use Rattle.tok_lexical.specs.declared.rule.Rule.TheVariants.{ByteOrderMark, Whitespace}
-use Rattle.tok_lexical.specs.declared.rule.Rule.TheVariants.{LineComment, BlockComment}
-use Rattle.tok_lexical.specs.declared.rule.Rule.TheVariants.{OpenComment, Opening, Closing}
-use Rattle.tok_lexical.specs.declared.rule.Rule.TheVariants.{QuotedString, BadString, ByteChar}
-use Rattle.tok_lexical.specs.declared.rule.Rule.TheVariants.{BadByteChar, StringPrefix}
-use Rattle.tok_lexical.specs.declared.rule.Rule.TheVariants.{RawString, BadPrefixed}
-use Rattle.tok_lexical.specs.declared.rule.Rule.TheVariants.{EscapedChar, BadEscapedChar}
-use Rattle.tok_lexical.specs.declared.rule.Rule.TheVariants.{PlainChar, Lifetime, PlainLifetime}
-use Rattle.tok_lexical.specs.declared.rule.Rule.TheVariants.{Apostrophe, Based, BadBased, Float}
-use Rattle.tok_lexical.specs.declared.rule.Rule.TheVariants.{PointedDecimal, Decimal}
-use Rattle.tok_lexical.specs.declared.rule.Rule.TheVariants.{RawIdentifier, Identifier}
+use Rattle.tok_lexical.specs.declared.rule.Rule.TheVariants.{ByteOrderMark, Whitespace, LineComment}
+use Rattle.tok_lexical.specs.declared.rule.Rule.TheVariants.{BlockComment, OpenComment, Opening}
+use Rattle.tok_lexical.specs.declared.rule.Rule.TheVariants.{Closing, QuotedString, BadString}
+use Rattle.tok_lexical.specs.declared.rule.Rule.TheVariants.{ByteChar, BadByteChar, StringPrefix}
+use Rattle.tok_lexical.specs.declared.rule.Rule.TheVariants.{RawString, BadPrefixed, EscapedChar}
+use Rattle.tok_lexical.specs.declared.rule.Rule.TheVariants.{BadEscapedChar, PlainChar, Lifetime}
+use Rattle.tok_lexical.specs.declared.rule.Rule.TheVariants.{PlainLifetime, Apostrophe, Based}
+use Rattle.tok_lexical.specs.declared.rule.Rule.TheVariants.{BadBased, Float, PointedDecimal}
+use Rattle.tok_lexical.specs.declared.rule.Rule.TheVariants.{Decimal, RawIdentifier, Identifier}
 use Rattle.tok_lexical.specs.declared.rule.Rule.TheVariants.{Punct, Other}
 use Rattle.tok_lexical.specs.declared.contents.Contents.TheVariants.{Text, Bytes, C}
 use Rattle.tok_lexical.specs.Numbers.{IsRun, starts_digit}
 use Rattle.tok_lexical.specs.declared.start.Start.{Start}
 use Rattle.tok_lexical.specs.declared.start.Start.TheVariants as start
+use Rattle.tok_lexical.specs.declared.delimiter.Delimiter.{Delimiter}
 use Rattle.tok_lexical.specs.declared.delimiter.Delimiter.TheVariants as delimiter
+use Rattle.tok_lexical.specs.Characters.{opening_mark, closing_mark}
 
 -- whether a piece of the rule may begin so, as far as it goes with pieces that no earlier rule
 -- takes
@@ -87,6 +87,12 @@ digits_head p Tail piece zero other ([], tail, e, all, good, s) = absurd (false�
 digits_head p Tail piece zero other (c ∷ digits, tail, e, all, good, s) =
     (c, _, e, search (rules, tests))
 
+mark_opens : (d : Delimiter) → may_begin (Opening d) (start_of (opening_mark d)) ≡ true
+mark_opens d = grind arith
+
+mark_closes : (d : Delimiter) → may_begin (Closing d) (start_of (closing_mark d)) ≡ true
+mark_closes d = grind arith
+
 pub spelled_head : (rule : Rule) (piece : List ℕ) → Spells rule piece →
     HasHead (may_begin rule) piece
 spelled_head ByteOrderMark piece s = (0xFEFF, [], the_one s, refl)
@@ -94,14 +100,8 @@ spelled_head Whitespace piece (c, pass, e) = (c, [], e, search (rules, tests))
 spelled_head LineComment piece (body, e, a) = (47, _, e, refl)
 spelled_head BlockComment piece (body, e, a) = (47, _, e, refl)
 spelled_head OpenComment piece e = (47, _, e, refl)
-spelled_head (Opening delimiter.Parenthesis) piece s = (40, [], the_one s, refl)
-spelled_head (Opening delimiter.Brace) piece s = (123, [], the_one s, refl)
-spelled_head (Opening delimiter.Bracket) piece s = (91, [], the_one s, refl)
-spelled_head (Opening delimiter.None) piece s = (171, [], the_one s, refl)
-spelled_head (Closing delimiter.Parenthesis) piece s = (41, [], the_one s, refl)
-spelled_head (Closing delimiter.Brace) piece s = (125, [], the_one s, refl)
-spelled_head (Closing delimiter.Bracket) piece s = (93, [], the_one s, refl)
-spelled_head (Closing delimiter.None) piece s = (187, [], the_one s, refl)
+spelled_head (Opening d) piece s = (opening_mark d, [], the_one s, mark_opens d)
+spelled_head (Closing d) piece s = (closing_mark d, [], the_one s, mark_closes d)
 spelled_head BadString piece s = (34, [], the_one s, refl)
 spelled_head ByteChar piece (more, e, s) = (98, _, e, refl)
 spelled_head BadByteChar piece e = (98, _, e, refl)

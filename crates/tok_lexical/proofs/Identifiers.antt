@@ -1,26 +1,24 @@
 -- Identifiers, plain and raw.
-use Rattle.std.proofs.Common.{◌≡◌, ◌∙◌, ℕ, ◌<◌, inl, inr, List, [], ◌∷◌, ◌++◌, refl, sym, ap}
-use Rattle.std.proofs.Common.{subst, arith, append_assoc, true, false, Bool, zero, suc, ◌&&◌}
-use Rattle.std.specs.Prelude.{◌==◌, ◌||◌, Option, Some, None, length, MatchBool, codes, nat_lt}
-use Rattle.std.specs.Prelude.{slice_index, encode_utf8_all}
+use Rattle.tok_lexical.proofs.Longest.{either_first, pass_weaker, skips_then, no_more}
+use Rattle.std.specs.Cmp.{both_ways}
+use Rattle.std.proofs.Common.{◌≡◌, ◌∙◌, ℕ, ◌<◌, inl, inr, List, [], ◌∷◌, ◌++◌, refl, sym, ap, arith}
+use Rattle.std.proofs.Common.{true, false, Bool, zero, suc, rules, tests, ◌≤◌}
+use Rattle.std.specs.Prelude.{◌==◌, ◌||◌, Option, length, MatchBool, codes, nat_lt, slice_index}
+use Rattle.std.specs.Prelude.{encode_utf8_all}
 use Rattle.std.specs.List.{list_all}
 use Rattle.std.specs.Char.{is_ascii_alphabetic}
 use Rattle.std.specs.Str.{chars, IsUtf8, bytes_eq}
 use Rattle.std.specs.Borrow.{Bor}
 use Rattle.std.proofs.lemmas.List.{append-nil}
-use Rattle.std.proofs.lemmas.Bool.{false≢true, ne_eqb, ltb-true, false_from_ne_true, leb-false}
-use Rattle.std.proofs.Common.{rules, tests, ◌≤◌}
-use Rattle.std.proofs.lemmas.List.Folds.{list_all-append}
-use Rattle.tok_lexical.specs.Private.Fronts.{begins_beyond_ascii}
+use Rattle.std.proofs.lemmas.Bool.{false≢true, ltb-true, false_from_ne_true, leb-false}
+use Rattle.tok_lexical.specs.Private.Fronts.{begins_beyond_ascii, is_ascii_continue}
 use Rattle.unicode_ident.specs.Ident.{is_xid_continue}
 use Rattle.unicode_ident.proofs.IdentLemmas.{is_xid_continue-ascii, is_xid_start-ascii}
 use Rattle.tok_lexical.specs.Pieces.{IsLongestPrefix, HasPrefix, ReadsLongest, Skips, Stops}
 use Rattle.tok_lexical.specs.Following.{starts_name}
 use Rattle.tok_lexical.specs.Words.{is_identifier_start, IsIdentifier, IsRawIdentifier, IsName}
-use Rattle.tok_lexical.specs.Scans.{IsAsciiTest}
-use Rattle.tok_lexical.specs.Private.Fronts.{is_ascii_continue}
 use Rattle.tok_lexical.specs.Words.{has_no_raw, is_raw_prefix}
-use Rattle.tok_lexical.proofs.Longest.{no_more}
+use Rattle.tok_lexical.specs.Scans.{IsAsciiTest}
 use Rattle.tok_lexical.proofs.Runs.{ascii_test}
 use Rattle.tok_lexical.proofs.Digits.{head_passes, tail_passes}
 use Rattle.std.proofs.lemmas.Str.{encodes-chars, encodes-IsAscii, chars-IsAscii, chars-nil}
@@ -33,7 +31,7 @@ pub takes_identifier : (text mid rest : List ℕ) (c : ℕ) → text ≡ c ∷ m
 takes_identifier text mid rest c e h (front, s) = (
   c ∷ front,
   record {
-    cut = e ∙ ap (λ w. c ∷ w) s.cut;
+    cut = cc (s.cut);
     spelled = (h, s.pass);
     longest = λ more after q w. no_more is_xid_continue rest more after front s.stops q w.1;
   },
@@ -41,31 +39,12 @@ takes_identifier text mid rest c e h (front, s) = (
 
 -- identifiers, plain or raw
 word_head : (name : List ℕ) → IsRawIdentifier name → (more : List ℕ) × (name ≡ 114 ∷ 35 ∷ more)
-word_head name (more, e, (last, f, w)) = (last, e ∙ ap (λ v. 114 ∷ v) f)
+word_head name (more, e, (last, f, w)) = (last, cc)
 
 pub name_plain : (text : List ℕ) (answer : Option (Bor (List ℕ))) →
     (HasPrefix IsRawIdentifier text → ⊥) → ReadsLongest IsIdentifier text answer →
     ReadsLongest IsName text answer
-name_plain text None raw misses = λ (piece, after, cut, h). elim h
-    [ inl w ↦ misses (piece, after, cut, w) | inr r ↦ raw (piece, after, cut, r) ]
-name_plain text (Some rest) raw (piece, t) = (
-  piece,
-  record {
-    cut = t.cut;
-    spelled = inl t.spelled;
-    longest = λ more after e h. elim h [
-      | inl w ↦ t.longest more after e w
-      | inr r ↦ absurd
-          (raw (
-            piece ++ more,
-            after,
-            t.cut ∙ ap (λ w. piece ++ w) e
-                ∙ sym (append_assoc piece more after),
-            r,
-          ))
-    ];
-  },
-)
+name_plain = either_first IsIdentifier IsRawIdentifier
 
 -- what doesn't begin as an identifier
 pub no_name : (text : List ℕ) → starts_name text ≡ false → HasPrefix IsIdentifier text → ⊥
@@ -75,13 +54,13 @@ no_name text e (c ∷ piece, after, cut, s) = false≢true (sym e ∙ ap starts_
 -- an identifier may begin with an ASCII letter and with an underscore
 pub letter_start : (c : ℕ) → c < 128 → (is_letter : Bool) → is_letter ≡ is_ascii_alphabetic c →
     (is_letter || (c == 95)) ≡ is_identifier_start c
-letter_start c h is_letter e = ap (λ w. w || (c == 95)) (e ∙ sym (is_xid_start-ascii c h))
+letter_start c h is_letter e = rw (e, is_xid_start-ascii c h) refl
 
 -- a word has no number sign
 raw_no_word : (name more : List ℕ) → IsRawIdentifier name → IsIdentifier (name ++ more) → ⊥
 raw_no_word name more r w =
     let h = word_head name r in
-    let v : IsIdentifier (114 ∷ 35 ∷ (h.0 ++ more)) = subst (λ u. IsIdentifier (u ++ more)) h.1 w in
+    let v = rw h.1 at w in
     false≢true (sym (is_xid_continue-ascii 35 (omega arith)) ∙ head_passes is_xid_continue 35
     (h.0 ++ more) v.1)
 
@@ -103,21 +82,15 @@ ascii_at (x ∷ t) (suc i) h = ascii_at t i (tail_passes (λ c. nat_lt c 128) x 
 
 same_text : (bytes t : List ℕ) → IsUtf8 bytes → list_all (λ c. nat_lt c 128) t ≡ true →
     bytes_eq bytes t ≡ bytes_eq (chars bytes) t
-same_text bytes t u h = go (bytes_eq bytes t) refl
-  where
-    go : (b : Bool) → bytes_eq bytes t ≡ b → bytes_eq bytes t ≡ bytes_eq (chars bytes) t
-    go true e =
-        let same : bytes ≡ t = (bytes_eq-Decides bytes t).0 e in
-        e ∙ sym ((bytes_eq-Decides (chars bytes) t).1
-        (ap chars same ∙ chars-IsAscii t (λ i. ascii_at t i h)))
-    go false e = e ∙ sym (false_from_ne_true (bytes_eq (chars bytes) t) (λ f.
-        let same : chars bytes ≡ t = (bytes_eq-Decides (chars bytes) t).0 f in
-        let back : bytes ≡ t = sym (encodes-chars bytes u) ∙ ap encode_utf8_all same
-        ∙ encodes-IsAscii t (λ i. ascii_at t i h) in
-        false≢true (sym e ∙ (bytes_eq-Decides bytes t).1 back)))
+same_text bytes t u h =
+    let ascii : (i : ℕ) → slice_index t i < 128 = λ i. ascii_at t i h in
+    let one = bytes_eq-Decides bytes t in
+    let other = bytes_eq-Decides (chars bytes) t in
+    both_ways _ _ (λ e. other.1 (rw (one.0 e) (chars-IsAscii t ascii)))
+    (λ e. one.1 (cc (encodes-chars bytes u, encodes-IsAscii t ascii, other.0 e)))
 
 either : (a b c d : Bool) → a ≡ b → c ≡ d → (a || c) ≡ (b || d)
-either a b c d e f = ap (λ w. w || c) e ∙ ap (λ w. b || w) f
+either a b c d e f = cc
 
 -- the same word, by its bytes and by its characters
 pub no_raw_chars : (bytes : List ℕ) → IsUtf8 bytes → has_no_raw bytes ≡ has_no_raw (chars bytes)
@@ -137,12 +110,12 @@ raw_prefix_chars bytes u = either _ _ _ _ (same_text bytes (codes "r") u refl)
 pub is_whole : (text rest : List ℕ) → rest ≡ [] → (piece : List ℕ)
     × IsLongestPrefix IsIdentifier text piece rest → IsIdentifier text
 is_whole text rest e (piece, t) =
-    subst IsIdentifier (sym (t.cut ∙ ap (λ w. piece ++ w) e ∙ append-nil piece)) t.spelled
+    rw (t.cut, e, append-nil piece) t.spelled
 
 is_part : (text rest : List ℕ) → (rest ≡ [] → ⊥) → (piece : List ℕ)
     × IsLongestPrefix IsIdentifier text piece rest → IsIdentifier text → ⊥
 is_part text rest some (piece, t) whole =
-    some (t.longest rest [] (sym (append-nil rest)) (subst IsIdentifier t.cut whole))
+    some (t.longest rest [] (sym (append-nil rest)) (rw t.cut at whole))
 
 -- the same of the answer
 pub whole_identifier : (text rest : List ℕ) (b : Bool) → b ≡ (length rest == 0) → IsUtf8 rest →
@@ -151,7 +124,7 @@ pub whole_identifier : (text rest : List ℕ) (b : Bool) → b ≡ (length rest 
 whole_identifier text [] true e u t = is_whole text (chars []) chars-nil t
 whole_identifier text [] false e u t = absurd (false≢true e)
 whole_identifier text (x ∷ rest) true e u t =
-    absurd (false≢true (sym (ne_eqb (length (x ∷ rest)) 0 (λ z. absurd (omega arith))) ∙ sym e))
+    absurd (grind arith)
 whole_identifier text (x ∷ rest) false e u t = is_part text (chars (x ∷ rest))
     (λ none.
     let bytes : x ∷ rest ≡ [] = sym (encodes-chars (x ∷ rest) u) ∙ ap encode_utf8_all none in cc)
@@ -166,10 +139,7 @@ ascii_continues x h = is_xid_continue-ascii x (ascii_continues_low x h) ∙ h
 
 all_continue : (cs : List ℕ) → list_all is_ascii_continue cs ≡ true → list_all is_xid_continue cs
     ≡ true
-all_continue [] h = refl
-all_continue (c ∷ cs) h =
-    rw (ascii_continues c (head_passes is_ascii_continue c cs h))
-    (all_continue cs (tail_passes is_ascii_continue c cs h))
+all_continue = pass_weaker is_ascii_continue is_xid_continue ascii_continues
 
 -- where no character beyond ASCII follows
 pub stops_ascii : (rest : List ℕ) → Stops is_ascii_continue rest →
@@ -188,15 +158,7 @@ pub skips_more_continues : (text mid rest : List ℕ) → (front : List ℕ)
     × Skips is_ascii_continue text front mid → (more : List ℕ)
     × Skips is_xid_continue mid more rest → (skipped : List ℕ)
     × Skips is_xid_continue text skipped rest
-skips_more_continues text mid rest (front, s) (more, t) = (
-  front ++ more,
-  record {
-    cut = s.cut ∙ ap (λ w. front ++ w) t.cut ∙ sym (append_assoc front more rest);
-    pass = list_all-append is_xid_continue front more
-        ∙ ap (λ b. b && list_all is_xid_continue more) (all_continue front s.pass) ∙ t.pass;
-    stops = t.stops;
-  },
-)
+skips_more_continues = skips_then is_ascii_continue is_xid_continue ascii_continues
 
 -- beyond ASCII none goes on
 pub no_continue_beyond : (x : ℕ) → (x < 128 → ⊥) → is_ascii_continue x ≡ false

@@ -1,13 +1,14 @@
 -- Lemmas on pieces: lists alone.
 use Rattle.std.proofs.Common.{◌≡◌, ◌∙◌, ◌⊎◌, inl, inr, ℕ, ◌+◌, ◌<◌, List, [], ◌∷◌, ◌++◌, length}
-use Rattle.std.proofs.Common.{refl, sym, ap, subst, Bool, true, false, ◌&&◌, append_assoc, arith}
+use Rattle.std.proofs.Common.{refl, sym, ap, Bool, true, append_assoc, arith}
 use Rattle.std.proofs.Common.{length-append, rules, tests}
 use Rattle.std.proofs.lemmas.List.{append_cancel_left, append-nil}
 use Rattle.std.specs.List.{list_all}
 use Rattle.std.specs.Str.{chars, IsUtf8}
 use Rattle.std.specs.Char.{encode_utf8}
 use Rattle.std.proofs.lemmas.Str.{chars_past_char, length-encode, len_utf8_bounds}
-use Rattle.std.proofs.lemmas.Bool.{false≢true}
+use Rattle.std.proofs.lemmas.Bool.{false≢true, and_parts}
+use Rattle.std.proofs.lemmas.List.Folds.{list_all-append}
 use Rattle.tok_lexical.specs.Pieces.{HasPrefix, IsLongestPrefix, ReadsLongest}
 use Rattle.tok_lexical.specs.Private.Finds.{ReadsPrefix}
 use Rattle.tok_lexical.specs.Pieces.{Stops, Skips, IsOne, After}
@@ -23,34 +24,47 @@ chars_next text start mid rest c u e g h = rw h (chars_past_char text mid c u (s
 pub shorter_next : (text start mid rest : List ℕ) (c : ℕ) → start ≡ text → start ≡ encode_utf8 c
     ++ mid → rest ≡ mid → length rest < length text
 shorter_next text start mid rest c e g h =
-    let l : length text ≡ length (encode_utf8 c) + length mid = ap length (sym e ∙ g)
-    ∙ length-append (encode_utf8 c) mid in
+    let l : length text ≡ length (encode_utf8 c) + length mid = rw (← e, g) (length-append _ mid) in
     let b = length-encode c in
     let p = (len_utf8_bounds c).0 in
     let q : length rest ≡ length mid = ap length h in
     omega arith
-
--- a list that goes on past one element
-one_and_more : (c d : ℕ) (more : List ℕ) → (c ∷ []) ++ more ≡ d ∷ [] → more ≡ []
-one_and_more c d [] e = refl
-one_and_more c d (m ∷ more) e = cc
 
 pub takes_one : (p : ℕ → Bool) (text rest : List ℕ) (c : ℕ) → text ≡ c ∷ rest → p c ≡ true →
     IsLongestPrefix (IsOne p) text (c ∷ []) rest
 takes_one p text rest c e h = record {
   cut = e;
   spelled = (c, h, refl);
-  longest = λ more after q s. one_and_more c s.0 more s.2;
+  longest = λ more after q s. let whole = s.2 in cc;
 }
+
+pub one_read : {text rest : List ℕ} {c : ℕ} (p : ℕ → Bool) → text ≡ c ∷ rest → p c ≡ true →
+    (piece : List ℕ) × IsLongestPrefix (IsOne p) text piece rest
+one_read {text} {rest} {c} p e h = (c ∷ [], takes_one p text rest c e h)
 
 pub list_all_push : (p : ℕ → Bool) (xs : List ℕ) (c : ℕ) → list_all p xs ≡ true → p c ≡ true →
     list_all p (xs ++ c ∷ []) ≡ true
-list_all_push p [] c a h = rw h refl
-list_all_push p (x ∷ xs) c a h =
-    elim (p x) as (λ b. b && list_all p xs ≡ true → b && list_all p (xs ++ c ∷ []) ≡ true) [
-      | true ↦ λ k. list_all_push p xs c k h
-      | false ↦ λ k. absurd (false≢true k)
-    ] a
+list_all_push p xs c a h = rw (list_all-append p xs (c ∷ []), a, h) refl
+
+-- a test that passes all that another does
+module _ (p q : ℕ → Bool) (weaker : (c : ℕ) → p c ≡ true → q c ≡ true) where
+  pub pass_weaker : (cs : List ℕ) → list_all p cs ≡ true → list_all q cs ≡ true
+  pass_weaker [] h = refl
+  pass_weaker (c ∷ cs) h =
+      let both = and_parts (p c) (list_all p cs) h in
+      rw (weaker c both.0) (pass_weaker cs both.1)
+
+  -- what passes the one, and what passes the other after it
+  pub skips_then : (text mid rest : List ℕ) → (front : List ℕ) × Skips p text front mid →
+      (more : List ℕ) × Skips q mid more rest → (skipped : List ℕ) × Skips q text skipped rest
+  skips_then text mid rest (front, s) (more, t) = (
+    front ++ more,
+    record {
+      cut = cc (s.cut, t.cut, append_assoc front more rest);
+      pass = rw (list_all-append q front more, pass_weaker front s.pass) t.pass;
+      stops = t.stops;
+    },
+  )
 
 -- one more character that passes
 pub skips_more : (p : ℕ → Bool) (text mid rest front : List ℕ) (c : ℕ) → text ≡ front ++ mid →
@@ -58,7 +72,7 @@ pub skips_more : (p : ℕ → Bool) (text mid rest front : List ℕ) (c : ℕ) �
     × (text ≡ longer ++ rest) × (list_all p longer ≡ true)
 skips_more p text mid rest front c e a g h = (
   front ++ c ∷ [],
-  e ∙ ap (λ w. front ++ w) g ∙ sym (append_assoc front (c ∷ []) rest),
+  cc (append_assoc front (c ∷ []) rest),
   list_all_push p front c a h,
 )
 
@@ -67,7 +81,7 @@ skips_space : (text mid rest : List ℕ) → text ≡ 32 ∷ mid → (front : Li
     × Skips is_whitespace mid front rest → (longer : List ℕ) × Skips is_whitespace text longer
     rest
 skips_space text mid rest e (front, s) =
-    (32 ∷ front, record { cut = e ∙ ap (λ w. 32 ∷ w) s.cut; pass = s.pass; stops = s.stops })
+    (32 ∷ front, record { cut = cc (s.cut); pass = s.pass; stops = s.stops })
 
 -- after a space at the front, if there is one
 pub skips_first_space : (text : Bor (List ℕ)) (found : Option (Bor (List ℕ)))
@@ -77,10 +91,9 @@ pub skips_first_space : (text : Bor (List ℕ)) (found : Option (Bor (List ℕ))
     × Skips is_whitespace (chars next.now) front rest → (longer : List ℕ)
     × Skips is_whitespace (chars text.now) longer rest
 skips_first_space text None next rest e none skips =
-    subst (λ w. (front : List ℕ) × Skips is_whitespace (chars w.now) front rest) e skips
-skips_first_space text (Some after) next rest e one skips = skips_space (chars text.now)
-    (chars after.now) rest one
-    (subst (λ w. (front : List ℕ) × Skips is_whitespace (chars w.now) front rest) e skips)
+    rw e at skips
+skips_first_space text (Some after) next rest e one skips =
+    skips_space (chars text.now) (chars after.now) rest one (rw e at skips)
 
 -- no white space at the front
 pub skips_nothing : (text : List ℕ) → begins_visibly text ≡ true → (front : List ℕ)
@@ -93,12 +106,8 @@ skips_nothing text visible =
     visible_stops (c ∷ cs) h = search (rules, tests)
 
 all_after : (p : ℕ → Bool) (xs ys : List ℕ) → list_all p (xs ++ ys) ≡ true → list_all p ys ≡ true
-all_after p [] ys h = h
-all_after p (x ∷ xs) ys h =
-    elim (p x) as (λ b. b && list_all p (xs ++ ys) ≡ true → list_all p ys ≡ true) [
-      | true ↦ λ k. all_after p xs ys k
-      | false ↦ λ k. absurd (false≢true k)
-    ] h
+all_after p xs ys h =
+    (and_parts (list_all p xs) (list_all p ys) (rw (list_all-append p xs ys) at h)).1
 
 -- what stops doesn't go on
 pub no_more : (p : ℕ → Bool) (rest more after front : List ℕ) → Stops p rest →
@@ -106,12 +115,9 @@ pub no_more : (p : ℕ → Bool) (rest more after front : List ℕ) → Stops p 
 no_more p rest [] after front s e a = refl
 no_more p [] (m ∷ more) after front s e a = cc
 no_more p (c ∷ rest) (m ∷ more) after front s e a =
+    let all = and_parts (p m) (list_all p more) (all_after p front (m ∷ more) a) in
     let same : c ≡ m = cc in
-    let all = all_after p front (m ∷ more) a in
-    absurd (elim (p m) as (λ b. p m ≡ b → b && list_all p more ≡ true → ⊥) [
-      | true ↦ λ k q. false≢true (sym s ∙ ap p same ∙ k)
-      | false ↦ λ k q. false≢true q
-    ] refl all)
+    absurd (false≢true (sym s ∙ ap p same ∙ all.0))
 
 -- two characters, and then all that pass
 pub takes_after_pair : (a b : ℕ) (p : ℕ → Bool) (text mid rest : List ℕ) → text ≡ a ∷ b ∷ mid →
@@ -121,30 +127,25 @@ pub takes_after_pair : (a b : ℕ) (p : ℕ → Bool) (text mid rest : List ℕ)
 takes_after_pair a b p text mid rest e (front, s) = (
   a ∷ b ∷ front,
   record {
-    cut = e ∙ ap (λ w. a ∷ b ∷ w) s.cut;
+    cut = cc (s.cut);
     spelled = (front, refl, s.pass);
     longest = λ more after q (body, g, all).
         let same : body ≡ front ++ more = cc in
-        no_more p rest more after front s.stops q (ap (list_all p) (sym same) ∙ all);
+        no_more p rest more after front s.stops q (rw same at all);
   },
 )
-
-nothing_after : (a b : ℕ) (more : List ℕ) → (a ∷ b ∷ []) ++ more ≡ a ∷ b ∷ [] → more ≡ []
-nothing_after a b more e = append_cancel_left (a ∷ b ∷ []) more [] e
 
 -- a spelling of just two characters
 pub tries_pair : (a b : ℕ) (text : List ℕ) (answer : Option (Bor (List ℕ))) →
     MatchOption answer ((more : List ℕ) → text ≡ a ∷ b ∷ more → ⊥)
     (λ rest. text ≡ a ∷ b ∷ chars rest.now) → ReadsLongest (λ p. p ≡ a ∷ b ∷ []) text answer
-tries_pair a b text None misses = λ (piece, after, cut, one). misses after
-    (cut ∙ ap (λ w. w ++ after) one)
+tries_pair a b text None misses = λ (piece, after, cut, one). misses after (cc)
 tries_pair a b text (Some rest) e = (
   a ∷ b ∷ [],
   record {
     cut = e;
     spelled = refl;
-    longest = λ more after q s. nothing_after a b
-        more s;
+    longest = λ more after q s. cc;
   },
 )
 
@@ -153,16 +154,14 @@ pub tries_after : (k : ℕ) (S : List ℕ → Type 0) (text rest : List ℕ)
     (answer : Option (Bor (List ℕ))) → text ≡ k ∷ rest → ReadsLongest S rest answer →
     ReadsLongest (After k S) text answer
 tries_after k S text rest None e misses = λ (piece, after, cut, (more, f, s)).
-    let both : k ∷ rest ≡ k ∷ (more ++ after) = sym e ∙ cut ∙ ap (λ w. w ++ after) f in
-    let inner : rest ≡ more ++ after = cc in
-    misses (more, after, inner, s)
+    misses (more, after, cc, s)
 tries_after k S text rest (Some after) e (piece, t) = (
   k ∷ piece,
   record {
-    cut = e ∙ ap (λ w. k ∷ w) t.cut;
+    cut = cc (t.cut);
     spelled = (piece, refl, t.spelled);
     longest = λ more after f (q, g, s). let same : q ≡ piece ++ more = cc in
-        t.longest more after f (subst S same s);
+        t.longest more after f (rw same at s);
   },
 )
 
@@ -170,11 +169,8 @@ pub finds_after : (k : ℕ) (S : List ℕ → Type 0) (text rest : List ℕ)
     (answer : Option (Bor (List ℕ))) → text ≡ k ∷ rest → ReadsPrefix S rest answer →
     ReadsPrefix (After k S) text answer
 finds_after k S text rest None e misses = λ (piece, after, cut, (more, f, s)).
-    let both : k ∷ rest ≡ k ∷ (more ++ after) = sym e ∙ cut ∙ ap (λ w. w ++ after) f in
-    let inner : rest ≡ more ++ after = cc in
-    misses (more, after, inner, s)
-finds_after k S text rest (Some after) e (piece, cut, s) =
-    (k ∷ piece, e ∙ ap (λ w. k ∷ w) cut, (piece, refl, s))
+    misses (more, after, cc, s)
+finds_after k S text rest (Some after) e (piece, cut, s) = (k ∷ piece, cc, (piece, refl, s))
 
 -- of a spelling of which none begins another, what is found is taken
 abbrev pub IsFree : (List ℕ → Type 0) → Type 0
@@ -188,9 +184,9 @@ tries_found S text (Some rest) free (piece, cut, s) = (
   record {
     cut = cut;
     spelled = s;
-    longest = λ more after f longer. append_cancel_left piece more []
-        (sym (free piece (piece ++ more) s longer more [] (sym (append-nil (piece ++ more)))).0
-        ∙ sym (append-nil piece));
+    longest = λ more after f longer.
+        let same = (free piece (piece ++ more) s longer more [] (sym (append-nil _))).0 in
+        append_cancel_left piece more [] (cc (append-nil piece));
   },
 )
 
@@ -199,8 +195,13 @@ pub tries_two : (a b mark : ℕ) (text : List ℕ) (answer : Option (Bor (List �
     (λ rest. text ≡ a ∷ mark ∷ chars rest.now) → ReadsLongest (λ p. p ≡ a ∷ b ∷ []) text answer
 tries_two a b mark text answer e h =
     tries_pair a b text answer
-    (subst (λ w. MatchOption answer ((more : List ℕ) → text ≡ a ∷ w ∷ more → ⊥)
-    (λ rest. text ≡ a ∷ w ∷ chars rest.now)) e h)
+    (rw e at h)
+
+-- what goes on past a piece begins the text
+goes_on : {S R : List ℕ → Type 0} {text piece rest : List ℕ} → IsLongestPrefix S text piece rest →
+    (more after : List ℕ) → rest ≡ more ++ after → R (piece ++ more) → HasPrefix R text
+goes_on {piece = piece} t more after e r =
+    (piece ++ more, after, cc (t.cut, append_assoc piece more after), r)
 
 -- one of two spellings, where the other doesn't fit
 pub either_first : (S R : List ℕ → Type 0) (text : List ℕ) (answer : Option (Bor (List ℕ))) →
@@ -215,14 +216,7 @@ either_first S R text (Some rest) fails (piece, t) = (
     spelled = inl t.spelled;
     longest = λ more after e h. elim h [
       | inl s ↦ t.longest more after e s
-      | inr r ↦ absurd
-          (fails (
-            piece ++ more,
-            after,
-            t.cut ∙ ap (λ w. piece ++ w) e
-                ∙ sym (append_assoc piece more after),
-            r,
-          ))
+      | inr r ↦ absurd (fails (goes_on {R = R} t more after e r))
     ];
   },
 )
@@ -238,14 +232,7 @@ either_second S R text (Some rest) fails (piece, t) = (
     cut = t.cut;
     spelled = inr t.spelled;
     longest = λ more after e h. elim h [
-      | inl s ↦ absurd
-          (fails (
-            piece ++ more,
-            after,
-            t.cut ∙ ap (λ w. piece ++ w) e
-                ∙ sym (append_assoc piece more after),
-            s,
-          ))
+      | inl s ↦ absurd (fails (goes_on {R = S} t more after e s))
       | inr r ↦ t.longest more after e r
     ];
   },
@@ -257,9 +244,7 @@ pub fronts : (p q r s : List ℕ) → p ++ r ≡ q ++ s → ((m : List ℕ) × (
 fronts [] q r s e = inl (q, refl, e)
 fronts (x ∷ p) [] r s e = inr (x ∷ p, refl, sym e)
 fronts (x ∷ p) (y ∷ q) r s e =
-    let head : x ≡ y = cc in
-    let tail : p ++ r ≡ q ++ s = cc in
-    elim (fronts p q r s tail) [
+    elim (fronts p q r s (cc)) [
       | inl (m, a, b) ↦ inl (m, cc, b)
       | inr (m, a, b) ↦ inr (m, cc, b)
     ]
@@ -267,8 +252,8 @@ fronts (x ∷ p) (y ∷ q) r s e =
 longer_none : (S : List ℕ → Type 0) (text p r q s m : List ℕ) → IsLongestPrefix S text p r →
     IsLongestPrefix S text q s → q ≡ p ++ m → r ≡ m ++ s → (p ≡ q) × (r ≡ s)
 longer_none S text p r q s m t u a b =
-    let nothing : m ≡ [] = t.longest m s b (subst S a u.spelled) in
-    (sym (a ∙ ap (λ w. p ++ w) nothing ∙ append-nil p), b ∙ ap (λ w. w ++ s) nothing)
+    let nothing : m ≡ [] = t.longest m s b (rw a at u.spelled) in
+    (cc (append-nil p), cc)
 
 pub takes_unique : (S : List ℕ → Type 0) (text p r q s : List ℕ) → IsLongestPrefix S text p r →
     IsLongestPrefix S text q s → (p ≡ q) × (r ≡ s)

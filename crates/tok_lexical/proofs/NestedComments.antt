@@ -1,18 +1,15 @@
 -- The steps of the loop over a nested comment.
-use Rattle.std.proofs.Common.{◌≡◌, ◌∙◌, ℕ, zero, suc, ◌+◌, ◌-◌, ◌<◌, List, [], ◌∷◌, ◌++◌, refl}
-use Rattle.std.proofs.Common.{sym, ap, subst, arith, append_assoc, true}
+use Rattle.std.proofs.Common.{◌≡◌, ◌∙◌, ℕ, zero, suc, ◌+◌, ◌-◌, ◌<◌, List, [], ◌∷◌, ◌++◌, refl, sym}
+use Rattle.std.proofs.Common.{ap, arith, append_assoc, true, Bool, false}
 use Rattle.std.proofs.lemmas.List.{append-nil, append_cancel_left}
-use Rattle.std.proofs.Common.{Bool, false}
-use Rattle.std.specs.Prelude.{◌==◌, ◌||◌, ◌&&◌, not}
+use Rattle.std.specs.Prelude.{◌==◌, ◌||◌, ◌&&◌, not, Option, Some, None}
 use Rattle.std.specs.List.{list_all}
-use Rattle.std.proofs.lemmas.Bool.{false≢true, eq-eqb, eqb-true}
-use Rattle.std.specs.Prelude.{Option, Some, None}
 use Rattle.std.specs.Borrow.{Bor}
 use Rattle.std.specs.Str.{chars}
 use Rattle.tok_lexical.specs.Pieces.{HasPrefix, IsLongestPrefix, ReadsLongest, Skips, Stops}
 use Rattle.tok_lexical.specs.Pieces.{is_neither}
-use Rattle.tok_lexical.specs.Comments.{IsPlain, Closes, done, nested, ended, plain}
-use Rattle.tok_lexical.specs.Comments.{IsBlockComment, is_not_line_feed}
+use Rattle.tok_lexical.specs.Comments.{IsPlain, Closes, done, nested, ended, plain, IsBlockComment}
+use Rattle.tok_lexical.specs.Comments.{is_not_line_feed}
 
 -- a front of the start closes one comment just where what is left of it, at the rest, closes
 -- `depth`
@@ -61,14 +58,13 @@ step : (start rest front taken inner : List ℕ) (n m : ℕ) → Stands start re
     × (tail ≡ taken ++ more) × (inner ≡ more ++ after) × Closes m more)
     → Stands start inner (front ++ taken) m
 step start rest front taken inner n m s e up down = record {
-  cut = s.cut ∙ ap (λ w. front ++ w) e ∙ sym (append_assoc front taken inner);
-  back = λ tail after f c. subst (Closes 1) (sym (append_assoc front taken tail))
-      (s.back (taken ++ tail) after (e ∙ ap (λ w. taken ++ w) f
-      ∙ sym (append_assoc taken tail after)) (up tail after f c));
+  cut = cc (s.cut, append_assoc front taken inner);
+  back = λ tail after f c. rw (append_assoc front taken tail)
+      (s.back (taken ++ tail) after (cc (append_assoc taken tail after)) (up tail after f c));
   forth = λ tail after f c.
       let a = s.forth tail after f c in
       let b = down a.0 after (sym e ∙ a.2) a.3 in
-      (b.0, a.1 ∙ ap (λ w. front ++ w) b.1 ∙ sym (append_assoc front taken b.0), b.2, b.3);
+      (b.0, cc (a.1, b.1, append_assoc front taken b.0), b.2, b.3);
 }
 
 pub step_open : (start rest inner front : List ℕ) (depth : ℕ) → 0 < depth →
@@ -77,7 +73,7 @@ pub step_open : (start rest inner front : List ℕ) (depth : ℕ) → 0 < depth 
 step_open start rest inner front zero l s e = absurd (omega arith)
 step_open start rest inner front (suc n) l s e =
     let d : suc (suc n) ≡ suc n + 1 = omega arith in
-    subst (Stands start inner (front ++ 47 ∷ 42 ∷ [])) d
+    rw (← d)
     (step start rest front (47 ∷ 42 ∷ []) inner (suc n) (suc (suc n)) s e
     (λ tail after f c. nested c) (λ tail after f c. open_more n tail after inner f c))
 
@@ -87,16 +83,15 @@ pub step_close : (start rest inner front : List ℕ) (depth : ℕ) → 0 < depth
 step_close start rest inner front zero l s e = absurd (omega arith)
 step_close start rest inner front (suc n) l s e =
     let d : n ≡ suc n - 1 = omega arith in
-    subst (Stands start inner (front ++ 42 ∷ 47 ∷ [])) d
+    rw (← d)
     (step start rest front (42 ∷ 47 ∷ []) inner (suc n) n s e (λ tail after f c. ended c)
     (λ tail after f c. close_more n tail after inner f c))
 
 plain_front : (x : ℕ) (inner tail after : List ℕ) → IsPlain (x ∷ inner) → inner ≡ tail ++ after →
     IsPlain (x ∷ tail)
 plain_front x inner tail after p f = record {
-  opens_none = λ more e. p.opens_none (more ++ after) (ap (λ w. x ∷ w) f ∙ ap (λ w. w ++ after) e);
-  closes_none = λ more e. p.closes_none (more ++ after) (ap (λ w. x ∷ w) f
-      ∙ ap (λ w. w ++ after) e);
+  opens_none = λ more e. p.opens_none (more ++ after) (cc);
+  closes_none = λ more e. p.closes_none (more ++ after) (cc);
 }
 
 step_plain : (start rest inner front : List ℕ) (depth x : ℕ) → 0 < depth →
@@ -116,28 +111,19 @@ step_plain start rest inner front (suc n) x l s a b e =
 
 pub neither_first : (a b c : ℕ) (cs : List ℕ) → list_all (is_neither a b) (c ∷ cs) ≡ true →
     (c ≡ a → ⊥) × (c ≡ b → ⊥) × (list_all (is_neither a b) cs ≡ true)
-neither_first a b c cs h = go (c == a) (c == b) refl refl h
-  where
-    go : (p q : Bool) → (c == a) ≡ p → (c == b) ≡ q → not (p || q) && list_all (is_neither a b)
-        cs ≡ true → (c ≡ a → ⊥) × (c ≡ b → ⊥) × (list_all (is_neither a b) cs ≡ true)
-    go true q e f k = absurd (false≢true k)
-    go false true e f k = absurd (false≢true k)
-    go false false e f k =
-        (λ i. false≢true (sym e ∙ eq-eqb c a i), λ i. false≢true (sym f ∙ eq-eqb c b i), k)
+neither_first a b c cs h = grind arith
 
 -- a run of other characters
 step_run : (start rest inner front run : List ℕ) (depth x : ℕ) → 0 < depth →
     Stands start rest front depth → rest ≡ x ∷ (run ++ inner) → (x ≡ 47 → ⊥) → (x ≡ 42 → ⊥) →
     list_all (is_neither 42 47) run ≡ true → Stands start inner (front ++ x ∷ run) depth
 step_run start rest inner front [] depth x l s e a b h =
-    step_plain start rest inner front depth x l s (λ more f. a (heads _ _ _ _ (sym e ∙ f)))
-    (λ more f. b (heads _ _ _ _ (sym e ∙ f))) e
+    step_plain start rest inner front depth x l s (λ more f. a (cc)) (λ more f. b (cc)) e
 step_run start rest inner front (y ∷ run) depth x l s e a b h =
     let one = step_plain start rest (y ∷ (run ++ inner)) front depth x l s
-    (λ more f. a (heads _ _ _ _ (sym e ∙ f))) (λ more f. b (heads _ _ _ _ (sym e ∙ f))) e
-    in
+    (λ more f. a (cc)) (λ more f. b (cc)) e in
     let n = neither_first 42 47 y run h in
-    subst (λ w. Stands start inner w depth) (append_assoc front (x ∷ []) (y ∷ run))
+    rw (← (append_assoc front (x ∷ []) (y ∷ run)))
     (step_run start (y ∷ (run ++ inner)) inner (front ++ x ∷ []) run depth y l one refl n.1
     n.0 n.2)
 
@@ -146,23 +132,25 @@ pub step_skip : (start rest inner front run : List ℕ) (depth : ℕ) → 0 < de
     Stands start rest front depth → rest ≡ run ++ inner → list_all (is_neither 42 47) run
     ≡ true → Stands start inner (front ++ run) depth
 step_skip start rest inner front [] depth l s e h =
-    subst (λ w. Stands start inner w depth) (sym (append-nil front))
-    (subst (λ w. Stands start w front depth) e s)
+    rw (append-nil front, ← e) s
 step_skip start rest inner front (x ∷ run) depth l s e h =
     let n = neither_first 42 47 x run h in
     step_run start rest inner front run depth x l s e n.1 n.0 n.2
+
+-- and one that was skipped
+pub skip_on : (start rest inner : List ℕ) (depth : ℕ) → 0 < depth →
+    (front : List ℕ) × Stands start rest front depth →
+    (run : List ℕ) × Skips (is_neither 42 47) rest run inner →
+    (front : List ℕ) × Stands start inner front depth
+skip_on start rest inner depth l (front, i) (run, s) =
+    (front ++ run, step_skip start rest inner front run depth l i s.cut s.pass)
 
 -- such a run goes on to the end where neither follows it
 pub stops_end : (text : List ℕ) → Stops (is_neither 42 47) text →
     ((more : List ℕ) → text ≡ 42 ∷ more → ⊥) → ((more : List ℕ) → text ≡ 47 ∷ more → ⊥) →
     text ≡ []
 stops_end [] s a b = refl
-stops_end (c ∷ text) s a b = go (c == 42) (c == 47) refl refl s
-  where
-    go : (p q : Bool) → (c == 42) ≡ p → (c == 47) ≡ q → not (p || q) ≡ false → c ∷ text ≡ []
-    go true q f g k = absurd (a text (ap (λ w. w ∷ text) (eqb-true c 42 f)))
-    go false true f g k = absurd (b text (ap (λ w. w ∷ text) (eqb-true c 47 g)))
-    go false false f g k = absurd (false≢true (sym k))
+stops_end (c ∷ text) s a b = let p = a text in let q = b text in grind arith
 
 closes_some : (n : ℕ) (tail : List ℕ) → 0 < n → tail ≡ [] → Closes n tail → ⊥
 closes_some zero tail l e c = omega arith
@@ -180,17 +168,13 @@ open_none start rest front depth l s e (piece, after, cut, c) =
     front_nil [] ys f = refl
     front_nil (x ∷ xs) ys f = cc
 
-tails : (a b : ℕ) (x y : List ℕ) → a ∷ x ≡ b ∷ y → x ≡ y
-tails a b x y e = cc
-
 -- a slash that opens none
 pub step_slash : (start rest after front : List ℕ) (depth x : ℕ) → 0 < depth →
     Stands start rest front depth → rest ≡ x ∷ after → x ≡ 47 →
     ((more : List ℕ) → after ≡ 42 ∷ more → ⊥) → Stands start after (front ++ x ∷ []) depth
 step_slash start rest after front depth x l s e f misses =
     step_plain start rest after front depth x l s
-    (λ more g. misses more (tails x 47 _ _ (sym e ∙ g)))
-    (λ more g. absurd (omega (arith, heads x 42 _ _ (sym e ∙ g)))) e
+    (λ more g. misses more (cc)) (λ more g. omega (arith, heads x 42 _ _ (sym e ∙ g))) e
 
 -- an asterisk that closes none
 pub step_asterisk : (start rest after front : List ℕ) (depth x : ℕ) → 0 < depth →
@@ -198,8 +182,7 @@ pub step_asterisk : (start rest after front : List ℕ) (depth x : ℕ) → 0 < 
     ((more : List ℕ) → after ≡ 47 ∷ more → ⊥) → Stands start after (front ++ x ∷ []) depth
 step_asterisk start rest after front depth x l s e f misses =
     step_plain start rest after front depth x l s
-    (λ more g. absurd (omega (arith, heads x 47 _ _ (sym e ∙ g))))
-    (λ more g. misses more (tails x 42 _ _ (sym e ∙ g))) e
+    (λ more g. omega (arith, heads x 47 _ _ (sym e ∙ g))) (λ more g. misses more (cc)) e
 
 closed_none : (n : ℕ) (tail : List ℕ) → n ≡ 0 → Closes n tail → tail ≡ []
 closed_none zero tail z done = refl
@@ -212,14 +195,11 @@ takes_block start rest front depth z s = (
   front,
   record {
     cut = s.cut;
-    spelled = subst (Closes 1) (append-nil front)
-        (s.back [] rest refl (subst (λ n. Closes n []) (sym z) done));
+    spelled = rw append-nil at (s.back [] rest refl (rw z done));
     longest = λ more after f c.
-        let whole : start ≡ (front ++ more) ++ after = s.cut ∙ ap (λ w. front ++ w) f
-        ∙ sym (append_assoc front more after) in
-        let a = s.forth (front ++ more) after whole c in
+        let a = s.forth (front ++ more) after (cc (s.cut, append_assoc front more after)) c in
         let none : a.0 ≡ [] = closed_none depth a.0 z a.3 in
-        append_cancel_left front more [] (a.1 ∙ ap (λ w. front ++ w) none);
+        append_cancel_left front more [] (cc (a.1));
   },
 )
 
@@ -228,18 +208,16 @@ pub takes_marked : (text mid rest front : List ℕ) → text ≡ 47 ∷ 42 ∷ m
     IsLongestPrefix (Closes 1) mid front rest → IsLongestPrefix IsBlockComment text
     (47 ∷ 42 ∷ front) rest
 takes_marked text mid rest front e t = record {
-  cut = e ∙ ap (λ w. 47 ∷ 42 ∷ w) t.cut;
+  cut = cc (t.cut);
   spelled = (front, refl, t.spelled);
   longest = λ more after f (body, g, s). let same : body ≡ front ++ more = cc in
-      t.longest more after f (subst (Closes 1) same s);
+      t.longest more after f (rw same at s);
 }
 
 marked_none : (text mid : List ℕ) → text ≡ 47 ∷ 42 ∷ mid → (HasPrefix (Closes 1) mid → ⊥) →
     HasPrefix IsBlockComment text → ⊥
 marked_none text mid e misses (piece, after, cut, (body, f, s)) =
-    let both : 47 ∷ 42 ∷ mid ≡ 47 ∷ 42 ∷ (body ++ after) = sym e ∙ cut ∙ ap (λ w. w ++ after) f in
-    let inner : mid ≡ body ++ after = cc in
-    misses (body, after, inner, s)
+    misses (body, after, cc, s)
 
 pub tries_marked : (text mid : List ℕ) (answer : Option (Bor (List ℕ))) → text ≡ 47 ∷ 42 ∷ mid →
     ReadsLongest (Closes 1) mid answer → ReadsLongest IsBlockComment text answer

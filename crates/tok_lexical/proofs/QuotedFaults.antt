@@ -1,7 +1,6 @@
 -- What is wrong with a quoted literal: it is found once, and nothing is if the literal is whole.
-use Rattle.std.proofs.Common.{◌≡◌, ◌∙◌, ℕ, inl, inr, List, [], ◌∷◌, ◌++◌, Bool, true, false, ap}
-use Rattle.std.proofs.Common.{append_assoc, arith, refl, subst, sym}
-use Rattle.std.proofs.lemmas.Bool.{eq-eqb, eqb-true, false≢true}
+use Rattle.std.proofs.Common.{◌≡◌, ◌∙◌, ℕ, inl, inr, List, [], ◌∷◌, ◌++◌, Bool, true, ap}
+use Rattle.std.proofs.Common.{append_assoc, arith, refl, sym}
 use Rattle.std.proofs.lemmas.Bool.Decides.{eqb_tells}
 use Rattle.std.proofs.lemmas.List.{append-nil}
 use Rattle.std.proofs.lemmas.Option.{none-some}
@@ -10,7 +9,7 @@ use Rattle.std.specs.Borrow.{Bor}
 use Rattle.tok_lexical.specs.Pieces.{HasPrefix, IsOne, Skips, begins_with}
 use Rattle.tok_lexical.specs.Private.Finds.{ReadsPrefix}
 use Rattle.tok_lexical.specs.QuotedFaults.{IsCharFault, IsStringFault, IsQuotedFault}
-use Rattle.tok_lexical.specs.QuotedFaults.{IsRawFault, OpensRaw, byte, character, escape_at}
+use Rattle.tok_lexical.specs.QuotedFaults.{IsRawFault, OpensRaw, byte, character}
 use Rattle.tok_lexical.specs.QuotedFaults.{opening_quote, other, raw, raw_letters, stop_fault}
 use Rattle.tok_lexical.specs.QuotedFaults.{string, too_many, unclosed, unless_closed, whole}
 use Rattle.tok_lexical.specs.Raw.{IsRaw, IsRawString}
@@ -21,7 +20,6 @@ use Rattle.tok_lexical.specs.declared.contents.Contents.{Contents}
 use Rattle.tok_lexical.specs.declared.contents.Contents.TheVariants.{Text, Bytes, C}
 use Rattle.tok_lexical.specs.declared.quoted.QuotedFault.{QuotedFault}
 use Rattle.tok_lexical.proofs.EscapedChars.{all_stop, free_byte, free_escaped, free_one}
-use Rattle.tok_lexical.proofs.EscapedChars.{fronts_swap, heads, tails}
 use Rattle.tok_lexical.proofs.Digits.{all_stops}
 use Rattle.tok_lexical.proofs.Longest.{IsFree}
 use Rattle.tok_lexical.proofs.RawStrings.{raw_long, raw_open}
@@ -30,8 +28,7 @@ use Rattle.tok_lexical.proofs.Units.{no_quote, unit_same}
 -- what comes before the rest of a part of a literal
 pub cut_further : (literal before text inner rest : List ℕ) → literal ≡ before ++ text →
     text ≡ inner ++ rest → literal ≡ (before ++ inner) ++ rest
-cut_further literal before text inner rest e f =
-    e ∙ ap (λ w. before ++ w) f ∙ sym (append_assoc before inner rest)
+cut_further literal before text inner rest e f = cc (append_assoc before inner rest)
 
 -- a character that is no escape
 pub finds_char : (text : List ℕ) (answer : Option (Bor (List ℕ))) →
@@ -43,20 +40,12 @@ finds_char text None escaped misses = λ (piece, rest, cut, h). elim h [
 ]
 finds_char text (Some rest) escaped (piece, cut, p) = (piece, cut, inl p)
 
-no_slash : (b : Bool) (found : QuotedFault × ℕ) → (if b then Some found else None) ≡ None →
-    b ≡ false
-no_slash true found e = absurd (none-some found (sym e))
-no_slash false found e = refl
+begun : (k : ℕ) (text : List ℕ) → begins_with k text ≡ true → (rest : List ℕ) × (text ≡ k ∷ rest)
+begun k text e = grind arith
 
 is_closed : (b : Bool) (found : QuotedFault × ℕ) → (if b then None else Some found) ≡ None →
     b ≡ true
-is_closed true found e = refl
-is_closed false found e = absurd (none-some found (sym e))
-
-begun : (k : ℕ) (text : List ℕ) → begins_with k text ≡ true → (rest : List ℕ)
-    × (text ≡ k ∷ rest)
-begun k [] e = absurd (false≢true e)
-begun k (c ∷ rest) e = (rest, ap (λ w. w ∷ rest) (eqb-true c k e))
+is_closed b found e = grind arith
 
 -- of strings of one kind
 module _ (kind : Contents) where
@@ -66,36 +55,28 @@ module _ (kind : Contents) where
       (f ≡ g) × (r ≡ s)
   stops_once no_unit no_unit r s e m n = (refl, e)
   stops_once no_unit (unit {first = c} {rest = d} v vs) r s e m n =
-      absurd (m (c, d ++ s, e ∙ append_assoc c d s, v))
+      absurd (m (c, d ++ s, cc (append_assoc c d s), v))
   stops_once (unit {first = a} {rest = b} u us) no_unit r s e m n =
-      absurd (n (a, b ++ r, sym e ∙ append_assoc a b r, u))
+      absurd (n (a, b ++ r, cc (append_assoc a b r), u))
   stops_once (unit {first = a} {rest = b} u us) (unit {first = c} {rest = d} v vs) r s e m n =
       let same = unit_same kind u v (b ++ r) (d ++ s)
-      (sym (append_assoc a b r) ∙ e ∙ append_assoc c d s) in
+      (cc (append_assoc a b r, append_assoc c d s)) in
       let w = stops_once us vs r s same.1 m n in
-      (ap (λ x. x ++ b) same.0 ∙ ap (λ x. c ++ x) w.0, w.1)
+      (cc, w.1)
 
   -- where no unit is and nothing is wrong, the closing quote is
   quote_there : (at : ℕ) (rest : List ℕ) → stop_fault kind at rest ≡ None →
       (HasPrefix (IsUnit kind) rest → ⊥) → (more : List ℕ) × (rest ≡ 34 ∷ more)
-  quote_there at [] e m = absurd (none-some _ (sym e))
-  quote_there at (c ∷ rest) e m =
-      let f : (c == 92) ≡ false = no_slash (c == 92) (escape_at kind at rest) e in
-      elim (eqb_tells c 34) [
-        | inl h ↦ (rest, ap (λ w. w ∷ rest) h.1)
-        | inr h ↦
-            absurd (m (c ∷ [], rest, refl, plain c h.1 (λ q. false≢true (sym f ∙ eq-eqb c 92 q))))
-      ]
-
-  no_unit_there : (rest : List ℕ) → HasPrefix (IsUnit kind) (34 ∷ rest) → ⊥
-  no_unit_there rest (piece, after, e, u) = no_quote kind u after rest (sym e)
+  quote_there at [] e m = absurd (cc)
+  quote_there at (c ∷ rest) e m = elim (eqb_tells c 34) [
+    | inl h ↦ (rest, ap (λ w. w ∷ rest) h.1)
+    | inr h ↦ absurd (m (c ∷ [], rest, refl, plain c h.1 (λ q. absurd (grind arith))))
+  ]
 
   pub string_once : (before text : List ℕ) (a b : Option (QuotedFault × ℕ)) →
       IsStringFault kind before text a → IsStringFault kind before text b → a ≡ b
   string_once before text a b (f, r, s, e) (g, l, t, k) =
-      let w = stops_once s.units t.units r l (sym s.cut ∙ t.cut) s.stops t.stops in
-      e ∙ ap (λ x. stop_fault kind (bytes (before ++ x)) r) w.0
-      ∙ ap (λ x. stop_fault kind (bytes (before ++ g)) x) w.1 ∙ sym k
+      let w = stops_once s.units t.units r l (cc (s.cut, t.cut)) s.stops t.stops in cc
 
   pub string_tells : (before text : List ℕ) (found : Option (QuotedFault × ℕ)) →
       IsStringFault kind before text found →
@@ -105,17 +86,13 @@ module _ (kind : Contents) where
         let q = quote_there (bytes (before ++ front)) rest (sym e ∙ none) s.stops in (
           34 ∷ (front ++ 34 ∷ []),
           q.0,
-          ap (λ w. 34 ∷ w) (s.cut ∙ ap (λ w. front ++ w) q.1
-              ∙ sym (append_assoc front (34 ∷ []) q.0)),
+          cc (s.cut, append_assoc front (34 ∷ []) q.0),
           (front, [], refl, s.units, inl refl),
         ),
     λ (piece, last, cut, (body, suffix, g, us, k)).
-        let whole : 34 ∷ text ≡ 34 ∷ ((body ++ 34 ∷ suffix) ++ last) = cut
-        ∙ ap (λ w. w ++ last) g in
-        let inner : text ≡ body ++ 34 ∷ (suffix ++ last) = tails 34 34 _ _ whole
-        ∙ append_assoc body (34 ∷ suffix) last in
-        let w = stops_once s.units us rest (34 ∷ (suffix ++ last)) (sym s.cut ∙ inner) s.stops
-        (no_unit_there (suffix ++ last)) in
+        let w = stops_once s.units us rest (34 ∷ (suffix ++ last))
+        (cc (s.cut, append_assoc body (34 ∷ suffix) last)) s.stops
+        (λ (piece, after, f, u). no_quote kind u after (suffix ++ last) (sym f)) in
         e ∙ ap (λ x. stop_fault kind (bytes (before ++ front)) x) w.1,
   )
 
@@ -124,12 +101,16 @@ module _ (Inner : List ℕ → Type 0) (free : IsFree Inner) (kind : Contents) w
   pub char_once : (before text : List ℕ) (a b : Option (QuotedFault × ℕ)) →
       IsCharFault Inner kind before text a → IsCharFault Inner kind before text b → a ≡ b
   char_once before text a b (inl (i, r, c, h, e)) (inl (j, s, d, k, f)) =
-      let w = free i j h k r s (sym c ∙ d) in
-      e ∙ ap (λ x. unless_closed (bytes (before ++ x)) r) w.0
-      ∙ ap (λ x. unless_closed (bytes (before ++ j)) x) w.1 ∙ sym f
+      let w = free i j h k r s (sym c ∙ d) in cc
   char_once before text a b (inl (i, r, c, h, e)) (inr (none, f)) = absurd (none (i, r, c, h))
   char_once before text a b (inr (none, e)) (inl (j, s, d, k, f)) = absurd (none (j, s, d, k))
   char_once before text a b (inr (none, e)) (inr (never, f)) = e ∙ sym f
+
+  -- what such a literal is after its first apostrophe
+  inside_quotes : (text : List ℕ) → HasPrefix (IsQuoted Inner) (39 ∷ text) →
+      (inner rest : List ℕ) × (text ≡ inner ++ 39 ∷ rest) × Inner inner
+  inside_quotes text (piece, last, cut, (inner, suffix, g, k, s)) =
+      (inner, suffix ++ last, cc (append_assoc inner (39 ∷ suffix) last), k)
 
   pub char_tells : (before text : List ℕ) (found : Option (QuotedFault × ℕ)) →
       IsCharFault Inner kind before text found →
@@ -139,105 +120,57 @@ module _ (Inner : List ℕ → Type 0) (free : IsFree Inner) (kind : Contents) w
         let q = begun 39 rest (is_closed (begins_with 39 rest) _ (sym e ∙ none)) in (
           39 ∷ (inner ++ 39 ∷ []),
           q.0,
-          ap (λ w. 39 ∷ w) (cut ∙ ap (λ w. inner ++ w) q.1
-              ∙ sym (append_assoc inner (39 ∷ []) q.0)),
+          cc (append_assoc inner (39 ∷ []) q.0),
           (inner, [], refl, h, inl refl),
         ),
-    λ (piece, last, c, (inside, suffix, g, k, s)).
-        let whole : 39 ∷ text ≡ 39 ∷ ((inside ++ 39 ∷ suffix) ++ last) = c
-        ∙ ap (λ w. w ++ last) g in
-        let same : text ≡ inside ++ 39 ∷ (suffix ++ last) = tails 39 39 _ _ whole
-        ∙ append_assoc inside (39 ∷ suffix) last in
-        let w = free inner inside h k rest (39 ∷ (suffix ++ last)) (sym cut ∙ same) in
+    λ some.
+        let (within, after, same, k) = inside_quotes text some in
+        let w = free inner within h k rest (39 ∷ after) (sym cut ∙ same) in
         e ∙ ap (λ x. unless_closed (bytes (before ++ inner)) x) w.1,
   )
   char_tells before text found (inr (none, e)) = (
     λ nothing. absurd (none-some _ (sym nothing ∙ e)),
-    λ (piece, last, c, (inside, suffix, g, k, s)).
-        let whole : 39 ∷ text ≡ 39 ∷ ((inside ++ 39 ∷ suffix) ++ last) = c
-        ∙ ap (λ w. w ++ last) g in
-        absurd (none (
-          inside,
-          39 ∷ (suffix ++ last),
-          tails 39 39 _ _ whole
-              ∙ append_assoc inside (39 ∷ suffix) last,
-          k,
-        )),
+    λ some. let (inner, after, same, k) = inside_quotes text some in
+        absurd (none (inner, 39 ∷ after, same, k)),
   )
 
 -- an escape begins with a backslash, and a character is none
 pub free_char : IsFree IsChar
 free_char a b (inl s) (inl t) x y g = free_one is_char a b s t x y g
-free_char a b (inl (c, h, e)) (inr (more, f, t)) x y g =
-    let k = heads c 92 _ _ (fronts_swap a b (c ∷ []) (92 ∷ more) x y e f g) in
-    absurd (false≢true (ap is_char (sym k) ∙ h))
-free_char a b (inr (more, f, t)) (inl (c, h, e)) x y g =
-    let k = heads 92 c _ _ (fronts_swap a b (92 ∷ more) (c ∷ []) x y f e g) in
-    absurd (false≢true (ap is_char k ∙ h))
+free_char a b (inl (c, h, e)) (inr (more, f, t)) x y g = let k : c ≡ 92 = cc in grind arith
+free_char a b (inr (more, f, t)) (inl (c, h, e)) x y g = let k : c ≡ 92 = cc in grind arith
 free_char a b (inr s) (inr t) x y g = free_escaped a b s t x y g
 
 -- a text begins with the opening quote of one kind of string
 same_opening : (a b : Contents) (x y : List ℕ) → opening_quote a ++ x ≡ opening_quote b ++ y →
     (a ≡ b) × (x ≡ y)
-same_opening Text Text x y e = (refl, tails 34 34 x y e)
-same_opening Text Bytes x y e = absurd (omega (arith, heads 34 98 _ _ e))
-same_opening Text C x y e = absurd (omega (arith, heads 34 99 _ _ e))
-same_opening Bytes Text x y e = absurd (omega (arith, heads 98 34 _ _ e))
-same_opening Bytes Bytes x y e = (refl, tails 34 34 x y (tails 98 98 _ _ e))
-same_opening Bytes C x y e = absurd (omega (arith, heads 98 99 _ _ e))
-same_opening C Text x y e = absurd (omega (arith, heads 99 34 _ _ e))
-same_opening C Bytes x y e = absurd (omega (arith, heads 99 98 _ _ e))
-same_opening C C x y e = (refl, tails 34 34 x y (tails 99 99 _ _ e))
+same_opening a b x y e = grind arith
 
 -- no string begins as a character does
 no_character : (kind : Contents) (x y : List ℕ) → opening_quote kind ++ x ≡ 39 ∷ y → ⊥
-no_character Text x y e = omega (arith, heads 34 39 _ _ e)
-no_character Bytes x y e = omega (arith, heads 98 39 _ _ e)
-no_character C x y e = omega (arith, heads 99 39 _ _ e)
+no_character kind x y e = grind arith
 
 -- no string begins as a byte character does
 no_byte : (kind : Contents) (x y : List ℕ) → opening_quote kind ++ x ≡ 98 ∷ 39 ∷ y → ⊥
-no_byte Text x y e = omega (arith, heads 34 98 _ _ e)
-no_byte Bytes x y e = omega (arith, heads 34 39 _ _ (tails 98 98 _ _ e))
-no_byte C x y e = omega (arith, heads 99 98 _ _ e)
+no_byte kind x y e = grind arith
 
 -- a text begins with the letters of one kind of raw string
 same_letters : (a b : Contents) (x y : List ℕ) → raw_letters a ++ x ≡ raw_letters b ++ y →
     (a ≡ b) × (x ≡ y)
-same_letters Text Text x y e = (refl, tails 114 114 x y e)
-same_letters Text Bytes x y e = absurd (omega (arith, heads 114 98 _ _ e))
-same_letters Text C x y e = absurd (omega (arith, heads 114 99 _ _ e))
-same_letters Bytes Text x y e = absurd (omega (arith, heads 98 114 _ _ e))
-same_letters Bytes Bytes x y e = (refl, tails 114 114 x y (tails 98 98 _ _ e))
-same_letters Bytes C x y e = absurd (omega (arith, heads 98 99 _ _ e))
-same_letters C Text x y e = absurd (omega (arith, heads 99 114 _ _ e))
-same_letters C Bytes x y e = absurd (omega (arith, heads 99 98 _ _ e))
-same_letters C C x y e = (refl, tails 114 114 x y (tails 99 99 _ _ e))
+same_letters a b x y e = grind arith
 
 -- no raw string begins as a string does
 no_string : (kind quoted : Contents) (x y : List ℕ) → raw_letters kind ++ x
     ≡ opening_quote quoted ++ y → ⊥
-no_string Text Text x y e = omega (arith, heads 114 34 _ _ e)
-no_string Text Bytes x y e = omega (arith, heads 114 98 _ _ e)
-no_string Text C x y e = omega (arith, heads 114 99 _ _ e)
-no_string Bytes Text x y e = omega (arith, heads 98 34 _ _ e)
-no_string Bytes Bytes x y e = omega (arith, heads 114 34 _ _ (tails 98 98 _ _ e))
-no_string Bytes C x y e = omega (arith, heads 98 99 _ _ e)
-no_string C Text x y e = omega (arith, heads 99 34 _ _ e)
-no_string C Bytes x y e = omega (arith, heads 99 98 _ _ e)
-no_string C C x y e = omega (arith, heads 114 34 _ _ (tails 99 99 _ _ e))
+no_string kind quoted x y e = grind arith
 
 -- nor as a character does
 raw_no_character : (kind : Contents) (x y : List ℕ) → raw_letters kind ++ x ≡ 39 ∷ y → ⊥
-raw_no_character Text x y e = omega (arith, heads 114 39 _ _ e)
-raw_no_character Bytes x y e = omega (arith, heads 98 39 _ _ e)
-raw_no_character C x y e = omega (arith, heads 99 39 _ _ e)
+raw_no_character kind x y e = grind arith
 
 -- nor as a byte character does
 raw_no_byte : (kind : Contents) (x y : List ℕ) → raw_letters kind ++ x ≡ 98 ∷ 39 ∷ y → ⊥
-raw_no_byte Text x y e = omega (arith, heads 114 98 _ _ e)
-raw_no_byte Bytes x y e = omega (arith, heads 114 39 _ _ (tails 98 98 _ _ e))
-raw_no_byte C x y e = omega (arith, heads 99 98 _ _ e)
+raw_no_byte kind x y e = grind arith
 
 -- a text without a quote after the letters and the # opens no raw string
 pub opens_by_quote : (text signs front mid : List ℕ) (kind : Contents) →
@@ -252,37 +185,17 @@ opens_by_quote text signs front mid kind e s none wanted hashes rest o =
 -- a raw string of a kind, with its letters and without them
 without_letters : (kind : Contents) (rest : List ℕ) →
     HasPrefix (IsRawString kind) (raw_letters kind ++ rest) → HasPrefix IsRaw rest
-without_letters Text rest (piece, after, cut, (more, e, r)) =
-    (more, after, tails 114 114 _ _ (cut ∙ ap (λ w. w ++ after) e), r)
-without_letters Bytes rest (piece, after, cut, (prefixed, e, (more, f, r))) = (
-  more,
-  after,
-  tails 114 114 _ _ (tails 98 98 _ _ (cut ∙ ap (λ w. w ++ after) (e ∙ ap (λ w. 98 ∷ w) f))),
-  r,
-)
-without_letters C rest (piece, after, cut, (prefixed, e, (more, f, r))) = (
-  more,
-  after,
-  tails 114 114 _ _ (tails 99 99 _ _ (cut ∙ ap (λ w. w ++ after) (e ∙ ap (λ w. 99 ∷ w) f))),
-  r,
-)
+without_letters Text rest (piece, after, cut, (more, e, r)) = (more, after, cc, r)
+without_letters Bytes rest (piece, after, cut, (prefixed, e, (more, f, r))) = (more, after, cc, r)
+without_letters C rest (piece, after, cut, (prefixed, e, (more, f, r))) = (more, after, cc, r)
 
 with_letters : (kind : Contents) (rest : List ℕ) → HasPrefix IsRaw rest →
     HasPrefix (IsRawString kind) (raw_letters kind ++ rest)
-with_letters Text rest (piece, after, cut, r) =
-    (114 ∷ piece, after, ap (λ w. 114 ∷ w) cut, (piece, refl, r))
-with_letters Bytes rest (piece, after, cut, r) = (
-  98 ∷ 114 ∷ piece,
-  after,
-  ap (λ w. 98 ∷ 114 ∷ w) cut,
-  (114 ∷ piece, refl, (piece, refl, r)),
-)
-with_letters C rest (piece, after, cut, r) = (
-  99 ∷ 114 ∷ piece,
-  after,
-  ap (λ w. 99 ∷ 114 ∷ w) cut,
-  (114 ∷ piece, refl, (piece, refl, r)),
-)
+with_letters Text rest (piece, after, cut, r) = (114 ∷ piece, after, cc, (piece, refl, r))
+with_letters Bytes rest (piece, after, cut, r) =
+    (98 ∷ 114 ∷ piece, after, cc, (114 ∷ piece, refl, (piece, refl, r)))
+with_letters C rest (piece, after, cut, r) =
+    (99 ∷ 114 ∷ piece, after, cc, (114 ∷ piece, refl, (piece, refl, r)))
 
 pub raw_once : (hashes text : List ℕ) (a b : Option (QuotedFault × ℕ)) →
     IsRawFault hashes text a → IsRawFault hashes text b → a ≡ b
@@ -304,57 +217,52 @@ opening_signs kind text hashes rest o = record { cut = refl; pass = o.signs; sto
 pub raw_tells : (kind : Contents) (text hashes rest : List ℕ) (found : Option (QuotedFault × ℕ)) →
     OpensRaw kind text hashes rest → IsRawFault hashes rest found →
     (found ≡ None) ↔ HasPrefix (IsRawString kind) text
-raw_tells kind text hashes rest found o (too_many l) = (
-  λ e. absurd (none-some _ (sym e)),
-  λ some.
-      absurd (raw_long _ _ hashes (opening_signs kind text hashes rest o) l
-      (without_letters kind _ (subst (HasPrefix (IsRawString kind)) o.cut some))),
-)
-raw_tells kind text hashes rest found o (unclosed l none) = (
-  λ e. absurd (none-some _ (sym e)),
-  λ some.
-      absurd (raw_open _ _ hashes (opening_signs kind text hashes rest o) rest refl none
-      (without_letters kind _ (subst (HasPrefix (IsRawString kind)) o.cut some))),
-)
-raw_tells kind text hashes rest found o (whole l (body, after, cut, m)) = (
-  λ e.
-      subst (HasPrefix (IsRawString kind)) (sym o.cut) (with_letters kind _ (
-        hashes ++ 34 ∷ (body ++ []),
-        after,
-        ap (λ w. hashes ++ 34 ∷ w) (cut ∙ ap (λ w. w ++ after) (sym (append-nil body)))
-            ∙ sym (append_assoc hashes (34 ∷ (body ++ [])) after),
-        (hashes, body, [], refl, o.signs, l, m, inl refl),
-      )),
-  λ some. refl,
-)
+raw_tells kind text hashes rest found o f =
+    rw o.cut (elim f as (λ found _.
+    (found ≡ None) ↔ HasPrefix (IsRawString kind) (raw_letters kind ++ (hashes ++ 34 ∷ rest))) [
+      | too_many l ↦ (
+        λ e. absurd (cc),
+        λ some. absurd (raw_long _ _ hashes signs l (without_letters kind _ some)),
+      )
+      | unclosed l none ↦ (
+        λ e. absurd (cc),
+        λ some. absurd (raw_open _ _ hashes signs rest refl none (without_letters kind _ some)),
+      )
+      | whole l (body, after, cut, m) ↦ (
+        λ e. with_letters kind _ (
+          hashes ++ 34 ∷ (body ++ []),
+          after,
+          cc (append-nil body, append_assoc hashes (34 ∷ body) after),
+          (hashes, body, [], refl, o.signs, l, m, inl refl),
+        ),
+        λ some. refl,
+      )
+    ])
+  where
+    signs : Skips (λ c. c == 35) (hashes ++ 34 ∷ rest) hashes (34 ∷ rest)
+    signs = opening_signs kind text hashes rest o
 
 -- a text has one fault, or none
 module _ (text : List ℕ) (a b : Option (QuotedFault × ℕ)) where
   pub fault_once : IsQuotedFault text a → IsQuotedFault text b → a ≡ b
   fault_once (string k x e s) (string l y f t) =
       let w = same_opening k l x y (sym e ∙ f) in
-      let moved = subst (λ v. IsStringFault l (opening_quote l) v b) (sym w.1) t in
-      string_once k (opening_quote k) x a b s
-      (subst (λ v. IsStringFault v (opening_quote v) x b) (sym w.0) moved)
+      string_once k (opening_quote k) x a b s (rw (w.0, w.1) t)
   fault_once (string k x e s) (character y f t) = absurd (no_character k x y (sym e ∙ f))
   fault_once (string k x e s) (byte y f t) = absurd (no_byte k x y (sym e ∙ f))
   fault_once (string k x e s) (raw l h y p t) = absurd (no_string l k _ x (sym p.cut ∙ e))
   fault_once (string k x e s) (other n m o r f) = absurd (n k x e)
   fault_once (character x e s) (string l y f t) = absurd (no_character l y x (sym f ∙ e))
   fault_once (character x e s) (character y f t) =
-      char_once IsChar free_char Text (39 ∷ []) x a b s
-      (subst (λ v. IsCharFault IsChar Text (39 ∷ []) v b) (tails 39 39 y x (sym f ∙ e)) t)
-  fault_once (character x e s) (byte y f t) =
-      absurd (omega (arith, heads 39 98 _ _ (sym e ∙ f)))
+      let same : x ≡ y = cc in char_once IsChar free_char Text (39 ∷ []) x a b s (rw same t)
+  fault_once (character x e s) (byte y f t) = absurd (grind arith)
   fault_once (character x e s) (raw l h y p t) = absurd (raw_no_character l _ x (sym p.cut ∙ e))
   fault_once (character x e s) (other n m o r f) = absurd (m x e)
   fault_once (byte x e s) (string l y f t) = absurd (no_byte l y x (sym f ∙ e))
-  fault_once (byte x e s) (character y f t) =
-      absurd (omega (arith, heads 98 39 _ _ (sym e ∙ f)))
+  fault_once (byte x e s) (character y f t) = absurd (grind arith)
   fault_once (byte x e s) (byte y f t) =
-      char_once IsByte free_byte Bytes (98 ∷ 39 ∷ []) x a b s
-      (subst (λ v. IsCharFault IsByte Bytes (98 ∷ 39 ∷ []) v b)
-      (tails 39 39 y x (tails 98 98 _ _ (sym f ∙ e))) t)
+      let same : x ≡ y = cc in
+      char_once IsByte free_byte Bytes (98 ∷ 39 ∷ []) x a b s (rw same t)
   fault_once (byte x e s) (raw l h y p t) = absurd (raw_no_byte l _ x (sym p.cut ∙ e))
   fault_once (byte x e s) (other n m o r f) = absurd (o x e)
   fault_once (raw k h x o s) (string l y f t) = absurd (no_string k l _ y (sym o.cut ∙ f))
@@ -363,8 +271,7 @@ module _ (text : List ℕ) (a b : Option (QuotedFault × ℕ)) where
   fault_once (raw k h x o s) (raw l g y p t) =
       let w = same_letters k l _ _ (sym o.cut ∙ p.cut) in
       let v = all_stop (λ c. c == 35) 34 h g x y refl o.signs p.signs w.1 in
-      raw_once g y a b (subst (λ z. IsRawFault z y a) v.0
-      (subst (λ z. IsRawFault h z a) v.1 s)) t
+      raw_once h x a b s (rw (v.0, v.1) t)
   fault_once (raw k h x o s) (other n m p r f) = absurd (r k h x o)
   fault_once (other n m o r e) (string l y f t) = absurd (n l y f)
   fault_once (other n m o r e) (character y f t) = absurd (m y f)

@@ -1,17 +1,16 @@
 -- What is between the quotes of a raw string, by the search for the quote that ends it.
 use Rattle.std.proofs.Common.{◌≡◌, ◌∙◌, ◌+◌, ◌-◌, ◌≤◌, ◌∷◌, ◌++◌, [], ap, arith, eqb-true, false}
-use Rattle.std.proofs.Common.{inl, length, List, refl, subst, suc, sym, take, true, zero, ℕ}
+use Rattle.std.proofs.Common.{inl, length, List, refl, suc, sym, take, true, zero, ℕ}
 use Rattle.std.specs.Borrow.{Bor}
 use Rattle.std.specs.Prelude.{◌==◌, MatchOption, Option, encode_utf8_all}
 use Rattle.std.specs.Str.{chars, IsAscii, IsCharBoundary, IsUtf8}
 use Rattle.std.proofs.lemmas.Bool.{false≢true}
-use Rattle.std.proofs.lemmas.List.{append-nil}
+use Rattle.std.proofs.lemmas.List.{append-nil, nil_from_length}
 use Rattle.std.proofs.lemmas.Str.{chars-nil, encodes-chars, IsUtf8-append, IsUtf8-from_ascii}
 use Rattle.tok_lexical.specs.Pieces.{HasPrefix, Skips}
 use Rattle.tok_lexical.specs.Raw.{EndsAt, closed, further, IsRaw}
 use Rattle.tok_lexical.specs.RawQuotes.{InRawQuotes}
 use Rattle.tok_lexical.proofs.Digits.{all_stops}
-use Rattle.tok_lexical.proofs.EscapedChars.{tails}
 use Rattle.tok_lexical.proofs.RawStrings.{free_ends, signs_length}
 use Rattle.tok_lexical.proofs.Texts.{ascii_first, cut_boundary, cut_chars, cut_length, front_chars}
 
@@ -22,16 +21,7 @@ quotes_raw text contents (hashes, e, a, l, m) =
       text,
       [],
       sym (append-nil text),
-      (
-        hashes,
-        body,
-        [],
-        e ∙ ap (λ w. hashes ++ 34 ∷ w) (sym (append-nil body)),
-        a,
-        l,
-        m,
-        inl refl,
-      ),
+      (hashes, body, [], rw (append-nil body) e, a, l, m, inl refl),
     )
 
 -- a text that ends at a closing ends with it
@@ -39,7 +29,7 @@ ends_with : {closing text : List ℕ} → EndsAt closing text → (front : List 
     × (text ≡ front ++ closing)
 ends_with closed = ([], refl)
 ends_with (further {c = c} misses m) =
-    let (front, e) = ends_with m in (c ∷ front, ap (λ w. c ∷ w) e)
+    let (front, e) = ends_with m in (c ∷ front, cc)
 
 module _ (text mid hashes start body : List ℕ) (s : Skips (λ c. c == 35) text hashes mid)
     (q : mid ≡ 34 ∷ start) (m : EndsAt (34 ∷ hashes) body) where
@@ -49,10 +39,8 @@ module _ (text mid hashes start body : List ℕ) (s : Skips (λ c. c == 35) text
   quotes_end end contents cut (hs, e, a, l, n) =
       let w = all_stops (λ c. c == 35) hashes hs mid (34 ∷ (contents ++ 34 ∷ hs)) s.pass a s.stops
       refl (sym s.cut ∙ e) in
-      let same : start ≡ contents ++ 34 ∷ hs = tails 34 34 _ _ (sym q ∙ w.1) in
-      let other : EndsAt (34 ∷ hashes) (contents ++ 34 ∷ hs) =
-      subst (λ v. EndsAt (34 ∷ v) (contents ++ 34 ∷ hs)) (sym w.0) n in
-      (free_ends (34 ∷ hashes) body (contents ++ 34 ∷ hs) m other end []
+      let same : start ≡ contents ++ 34 ∷ hs = cc (w.1) in
+      (free_ends (34 ∷ hashes) body (contents ++ 34 ∷ hs) m (rw w.0 n) end []
       (sym cut ∙ same ∙ sym (append-nil (contents ++ 34 ∷ hs)))).1
 
   -- and what comes before the closing is between the quotes
@@ -65,10 +53,10 @@ module _ (text mid hashes start body : List ℕ) (s : Skips (λ c. c == 35) text
         whole,
         (
           hashes,
-          s.cut ∙ ap (λ w. hashes ++ w) (q ∙ ap (λ w. 34 ∷ w) whole),
+          rw (← whole, ← q) s.cut,
           s.pass,
           l,
-          subst (EndsAt (34 ∷ hashes)) e m,
+          rw e at m,
         ),
       )
 
@@ -89,7 +77,7 @@ quote_chars bytes u =
 module _ (start hashes contents : List ℕ) (u : IsUtf8 start) (v : IsUtf8 hashes)
     (e : chars start ≡ contents ++ 34 ∷ chars hashes) where
   cut : chars start ≡ contents ++ chars (34 ∷ hashes)
-  cut = e ∙ ap (λ w. contents ++ w) (sym (quote_chars hashes v))
+  cut = rw (quote_chars hashes v) e
 
   pub closing_length : length hashes + 1 ≤ length start
   closing_length =
@@ -99,18 +87,15 @@ module _ (start hashes contents : List ℕ) (u : IsUtf8 start) (v : IsUtf8 hashe
   closing_boundary =
       let n : length start - length (34 ∷ hashes) ≡ length start - length hashes - 1 =
       omega arith in
-      subst (IsCharBoundary start) n
-      (cut_boundary start (34 ∷ hashes) contents u (quote_utf8 hashes v) cut)
+      rw (← n) (cut_boundary start (34 ∷ hashes) contents u (quote_utf8 hashes v) cut)
 
   pub contents_chars : (taken : List ℕ) → taken ≡ take (length start - length hashes - 1) start →
       chars taken ≡ contents
   contents_chars taken is =
       let n : length start - length hashes - 1 ≡ length start - length (34 ∷ hashes) =
       omega arith in
-      let same : taken ≡ take (length start - length (34 ∷ hashes)) start =
-      is ∙ ap (λ k. take k start) n in
       front_chars start (34 ∷ hashes) contents taken cut
-      (cut_chars start (34 ∷ hashes) contents taken u (quote_utf8 hashes v) cut same)
+      (cut_chars start (34 ∷ hashes) contents taken u (quote_utf8 hashes v) cut (rw (← n) is))
 
 -- some text is left, or none
 pub some_left : (rest : List ℕ) → IsUtf8 rest → (length rest == 0) ≡ false → chars rest ≡ [] → ⊥
@@ -119,8 +104,7 @@ some_left (x ∷ rest) u h e =
     let bytes : x ∷ rest ≡ [] = sym (encodes-chars (x ∷ rest) u) ∙ ap encode_utf8_all e in cc
 
 none_left : (rest : List ℕ) → (length rest == 0) ≡ true → chars rest ≡ []
-none_left [] h = chars-nil
-none_left (x ∷ rest) h = absurd (omega (arith, eqb-true (length (x ∷ rest)) 0 h))
+none_left rest h = rw (nil_from_length rest (eqb-true (length rest) 0 h)) chars-nil
 
 -- a closing that was found, with nothing after it
 pub quotes_found : (text mid hashes start end : List ℕ) →
@@ -131,7 +115,7 @@ pub quotes_found : (text mid hashes start end : List ℕ) →
 quotes_found text mid hashes start end s u few q none (body, cut, m) =
     let l = signs_length hashes u s.pass in
     quotes_read text mid (chars hashes) (chars start) body s q m (omega arith)
-    (cut ∙ ap (λ w. body ++ w) (none_left end none) ∙ append-nil body)
+    (cc (none_left end none, append-nil body))
 
 -- what a function that looks for the contents returns
 abbrev pub ReadsRawQuotes : List ℕ → Option (Bor (List ℕ)) → Type 0

@@ -1,10 +1,9 @@
 -- Raw strings: the search for the quote that ends one.
-use Rattle.std.proofs.Common.{◌≡◌, ◌∙◌, ℕ, zero, suc, get_or, ◌+◌, ◌≤◌, ◌<◌, inl, inr, List, []}
-use Rattle.std.proofs.Common.{◌∷◌, ◌++◌, length, refl, sym, ap, subst, arith, append_assoc}
-use Rattle.std.proofs.Common.{length-append, true}
+use Rattle.std.proofs.Common.{◌≡◌, ◌∙◌, ℕ, zero, suc, get_or, ◌≤◌, ◌<◌, inl, inr, List, [], ◌∷◌}
+use Rattle.std.proofs.Common.{◌++◌, length, refl, sym, ap, arith, append_assoc, length-append, true}
 use Rattle.std.proofs.lemmas.List.{append-nil, append_cancel_left}
-use Rattle.std.proofs.lemmas.Bool.{false≢true, eqb-true}
-use Rattle.std.specs.Prelude.{◌==◌, ◌||◌, not, Bool, false}
+use Rattle.std.proofs.lemmas.Bool.{eqb-true}
+use Rattle.std.specs.Prelude.{◌==◌}
 use Rattle.std.specs.Str.{chars, IsUtf8}
 use Rattle.std.proofs.lemmas.Str.{encodes-chars, encodes-IsAscii}
 use Rattle.std.proofs.lemmas.Str.Ascii.{IsAscii-nil}
@@ -14,7 +13,7 @@ use Rattle.tok_lexical.specs.Raw.{EndsAt, closed, further, IsRaw}
 use Rattle.tok_lexical.specs.Words.{IsSuffix}
 use Rattle.tok_lexical.proofs.NestedComments.{neither_first}
 use Rattle.tok_lexical.proofs.Longest.{IsFree, fronts}
-use Rattle.tok_lexical.proofs.EscapedChars.{heads, tails, all_stop}
+use Rattle.tok_lexical.proofs.EscapedChars.{all_stop}
 use Rattle.tok_lexical.proofs.Digits.{all_stops, head_passes, tail_passes}
 
 ends_length : {closing text : List ℕ} → EndsAt closing text → length closing ≤ length text
@@ -34,9 +33,7 @@ closed_first closing c text x y misses m e =
       | inl (more, a, b) ↦ misses more a
       | inr (more, a, b) ↦
           let l = ends_length m in
-          let whole : length closing ≡ length (c ∷ text) + length more = ap length a
-          ∙ length-append (c ∷ text) more in
-          omega arith
+          absurd (omega (arith, ap length a, length-append (c ∷ text) more))
     ]
 
 pub free_ends : (closing : List ℕ) → IsFree (EndsAt closing)
@@ -50,8 +47,7 @@ free_ends closing a b s t x y e = go s t x y e
     go (further {c = c} {text = text} misses m) closed x y e =
         absurd (closed_first closing c text y x misses m (sym e))
     go (further {c = c} {text = text} misses m) (further {c = d} {text = other} others n) x y e =
-        let w = go m n x y (tails c d (text ++ x) (other ++ y) e) in
-        (ap (λ v. v ∷ text) (heads c d (text ++ x) (other ++ y) e) ∙ ap (λ v. d ∷ v) w.0, w.1)
+        let w = go m n x y (cc) in (cc, w.1)
 
 -- no closing begins in this front of the start, before the rest
 pub record Stands (closing start rest front : List ℕ) : Type 0 where
@@ -73,29 +69,22 @@ one_less : (closing inner more after : List ℕ) (c : ℕ) → c ∷ inner ≡ m
     ((m : List ℕ) → c ∷ inner ≡ closing ++ m → ⊥) → EndsAt closing more → (less : List ℕ)
     × (more ≡ c ∷ less) × (inner ≡ less ++ after) × EndsAt closing less
 one_less closing inner more after c e misses closed = absurd (misses after e)
-one_less closing inner more after c e misses (further {c = d} {text = text} n m) = (
-  text,
-  ap (λ w. w ∷ text) (sym (heads c d inner (text ++ after) e)),
-  tails c d inner (text ++ after) e,
-  m,
-)
+one_less closing inner more after c e misses (further {text = text} n m) = (text, cc, cc, m)
 
 -- past a character where the closing doesn't begin
 stands_more : (closing start rest inner front : List ℕ) (c : ℕ) →
     Stands closing start rest front → rest ≡ c ∷ inner →
     ((m : List ℕ) → c ∷ inner ≡ closing ++ m → ⊥) → Stands closing start inner (front ++ c ∷ [])
 stands_more closing start rest inner front c s e misses = record {
-  cut = s.cut ∙ ap (λ w. front ++ w) e ∙ sym (append_assoc front (c ∷ []) inner);
+  cut = cc (s.cut, append_assoc front (c ∷ []) inner);
   back = λ tail after f m.
-      let fails : (more : List ℕ) → c ∷ tail ≡ closing ++ more →
-      ⊥ = λ more g. misses (more ++ after) (ap (λ w. c ∷ w) f ∙ ap (λ w. w ++ after) g
-      ∙ append_assoc closing more after) in
-      subst (EndsAt closing) (sym (append_assoc front (c ∷ []) tail))
-      (s.back (c ∷ tail) after (e ∙ ap (λ w. c ∷ w) f) (further fails m));
+      let fails : (more : List ℕ) → c ∷ tail ≡ closing ++ more → ⊥ =
+      λ more g. misses (more ++ after) (cc (append_assoc closing more after)) in
+      rw (append_assoc front (c ∷ []) tail) (s.back (c ∷ tail) after (cc) (further fails m));
   forth = λ tail after f m.
       let a = s.forth tail after f m in
       let b = one_less closing inner a.0 after c (sym e ∙ a.2) misses a.3 in
-      (b.0, a.1 ∙ ap (λ w. front ++ w) b.1 ∙ sym (append_assoc front (c ∷ []) b.0), b.2, b.3);
+      (b.0, cc (a.1, b.1, append_assoc front (c ∷ []) b.0), b.2, b.3);
 }
 
 -- past a run with no quote
@@ -103,13 +92,12 @@ pub stands_run : (hashes start rest inner front run : List ℕ) →
     Stands (34 ∷ hashes) start rest front → rest ≡ run ++ inner → list_all (is_neither 34 34) run
     ≡ true → Stands (34 ∷ hashes) start inner (front ++ run)
 stands_run hashes start rest inner front [] s e h =
-    subst (λ w. Stands (34 ∷ hashes) start inner w) (sym (append-nil front))
-    (subst (λ w. Stands (34 ∷ hashes) start w front) e s)
+    rw (append-nil front, ← e) s
 stands_run hashes start rest inner front (x ∷ run) s e h =
     let n = neither_first 34 34 x run h in
     let one = stands_more (34 ∷ hashes) start rest (run ++ inner) front x s e
-    (λ m g. n.0 (heads x 34 (run ++ inner) (hashes ++ m) g)) in
-    subst (λ w. Stands (34 ∷ hashes) start inner w) (append_assoc front (x ∷ []) run)
+    (λ m g. n.0 (cc)) in
+    rw (← (append_assoc front (x ∷ []) run))
     (stands_run hashes start (run ++ inner) inner (front ++ x ∷ []) run one refl n.2)
 
 -- past a quote that the number signs don't follow
@@ -118,26 +106,22 @@ pub stands_quote : (hashes start rest inner front : List ℕ) →
     ((m : List ℕ) → inner ≡ hashes ++ m → ⊥) → Stands (34 ∷ hashes) start inner
     (front ++ 34 ∷ [])
 stands_quote hashes start rest inner front s e misses = stands_more (34 ∷ hashes) start rest
-    inner front 34 s e (λ m g. misses m (tails 34 34 inner (hashes ++ m) g))
+    inner front 34 s e (λ m g. misses m (cc))
 
 pub stands_found : (hashes start rest inner end front : List ℕ) →
     Stands (34 ∷ hashes) start rest front → rest ≡ 34 ∷ inner → inner ≡ hashes ++ end →
     (piece : List ℕ) × (start ≡ piece ++ end) × EndsAt (34 ∷ hashes) piece
 stands_found hashes start rest inner end front s e f =
-    let here : rest ≡ (34 ∷ hashes) ++ end = e ∙ ap (λ w. 34 ∷ w) f in (
+    let here : rest ≡ (34 ∷ hashes) ++ end = cc in (
       front ++ 34 ∷ hashes,
-      s.cut ∙ ap (λ w. front ++ w) here ∙ sym (append_assoc front (34 ∷ hashes) end),
+      cc (s.cut, append_assoc front (34 ∷ hashes) end),
       s.back (34 ∷ hashes) end here closed,
     )
 
 stops_nil : (text : List ℕ) → Stops (is_neither 34 34) text →
     ((more : List ℕ) → text ≡ 34 ∷ more → ⊥) → text ≡ []
 stops_nil [] s a = refl
-stops_nil (c ∷ text) s a = go (c == 34) refl s
-  where
-    go : (p : Bool) → (c == 34) ≡ p → not (p || p) ≡ false → c ∷ text ≡ []
-    go true q g = absurd (a text (ap (λ w. w ∷ text) (eqb-true c 34 q)))
-    go false q g = absurd (false≢true (sym g))
+stops_nil (c ∷ text) s a = let none = a text in grind arith
 
 front_nil : (xs ys : List ℕ) → [] ≡ xs ++ ys → xs ≡ []
 front_nil [] ys f = refl
@@ -157,17 +141,15 @@ raw_parts : (text mid hashes piece after : List ℕ) → Skips (λ c. c == 35) t
     × (mid ≡ 34 ∷ (body ++ (suffix ++ after))) × (length hashes ≤ 255)
     × EndsAt (34 ∷ hashes) body × IsSuffix suffix × (piece ≡ hashes ++ 34 ∷ (body ++ suffix))
 raw_parts text mid hashes piece after s cut (hs, body, suffix, e, a, l, m, k) =
-    let whole : hashes ++ mid ≡ hs ++ 34 ∷ ((body ++ suffix) ++ after) = sym s.cut ∙ cut
-    ∙ ap (λ w. w ++ after) e ∙ append_assoc hs (34 ∷ (body ++ suffix)) after in
     let w = all_stops (λ c. c == 35) hashes hs mid (34 ∷ ((body ++ suffix) ++ after)) s.pass a
-    s.stops refl whole in (
+    s.stops refl (cc (s.cut, append_assoc hs (34 ∷ (body ++ suffix)) after)) in (
       body,
       suffix,
-      w.1 ∙ ap (λ v. 34 ∷ v) (append_assoc body suffix after),
-      subst (λ v. length v ≤ 255) (sym w.0) l,
-      subst (λ v. EndsAt (34 ∷ v) body) (sym w.0) m,
+      cc (w.1, append_assoc body suffix after),
+      rw w.0 l,
+      rw w.0 m,
       k,
-      e ∙ ap (λ v. v ++ 34 ∷ (body ++ suffix)) (sym w.0),
+      rw w.0 e,
     )
 
 module _ (text mid hashes : List ℕ) (s : Skips (λ c. c == 35) text hashes mid) where
@@ -183,7 +165,7 @@ module _ (text mid hashes : List ℕ) (s : Skips (λ c. c == 35) text hashes mid
       (HasPrefix (EndsAt (34 ∷ hashes)) start → ⊥) → HasPrefix IsRaw text → ⊥
   raw_open start q misses (piece, after, cut, r) =
       let p = raw_parts text mid hashes piece after s cut r in
-      misses (p.0, p.1 ++ after, tails 34 34 _ _ (sym q ∙ p.2), p.4)
+      misses (p.0, p.1 ++ after, cc (p.2), p.4)
 
   pub takes_raw : (start end last body suffix : List ℕ) → length hashes ≤ 255 →
       mid ≡ 34 ∷ start → start ≡ body ++ end → EndsAt (34 ∷ hashes) body →
@@ -192,20 +174,19 @@ module _ (text mid hashes : List ℕ) (s : Skips (λ c. c == 35) text hashes mid
   takes_raw start end last body suffix l q f m t = (
     hashes ++ 34 ∷ (body ++ suffix),
     record {
-      cut = s.cut ∙ ap (λ w. hashes ++ w)
-          (q ∙ ap (λ w. 34 ∷ w) (f ∙ ap (λ w. body ++ w) t.cut
-          ∙ sym (append_assoc body suffix last)))
-          ∙ sym (append_assoc hashes (34 ∷ (body ++ suffix)) last);
+      cut = cc (
+        s.cut,
+        t.cut,
+        append_assoc body suffix last,
+        append_assoc hashes (34 ∷ (body ++ suffix)) last,
+      );
       spelled = (hashes, body, suffix, refl, s.pass, l, m, t.spelled);
       longest = λ more after g (hs, other, tail, e, a, l', m', k).
-          let one : hashes ++ 34 ∷ ((body ++ suffix) ++ more) ≡ hs ++ 34 ∷ (other ++ tail) =
-          sym (append_assoc hashes (34 ∷ (body ++ suffix)) more) ∙ e in
           let w = all_stop (λ c. c == 35) 34 hashes hs ((body ++ suffix) ++ more) (other ++ tail)
-          refl s.pass a one in
-          let here : EndsAt (34 ∷ hashes) other = subst (λ v. EndsAt (34 ∷ v) other) (sym w.0) m' in
-          let v = free_ends (34 ∷ hashes) body other m here (suffix ++ more) tail
+          refl s.pass a (sym (append_assoc hashes (34 ∷ (body ++ suffix)) more) ∙ e) in
+          let v = free_ends (34 ∷ hashes) body other m (rw w.0 m') (suffix ++ more) tail
           (sym (append_assoc body suffix more) ∙ w.1) in
-          t.longest more after g (subst IsSuffix (sym v.1) k);
+          t.longest more after g (rw v.1 k);
     },
   )
 
@@ -214,31 +195,28 @@ module _ (text rest front left more begun : List ℕ) (w : ℕ) (a : text ≡ be
     (b : front ≡ begun ++ left) (l : left ≡ w ∷ more) where
   left_over : (m : List ℕ) → text ≡ front ++ m → rest ≡ w ∷ (more ++ m)
   left_over m e = append_cancel_left begun rest (w ∷ (more ++ m))
-      (sym a ∙ e ∙ ap (λ v. v ++ m) (b ∙ ap (λ v. begun ++ v) l)
-      ∙ append_assoc begun (w ∷ more) m)
+      (cc (append_assoc begun (w ∷ more) m))
 
   pub same_short : rest ≡ [] → (m : List ℕ) → text ≡ front ++ m → ⊥
   same_short r m e = let f : [] ≡ w ∷ (more ++ m) = sym r ∙ left_over m e in cc
 
   pub same_apart : (c : ℕ) (after : List ℕ) → rest ≡ c ∷ after → (c ≡ w → ⊥) → (m : List ℕ) →
       text ≡ front ++ m → ⊥
-  same_apart c after r n m e = n (heads c w after (more ++ m) (sym r ∙ left_over m e))
+  same_apart c after r n m e = n (cc (left_over m e))
 
   pub same_more : (c : ℕ) (after : List ℕ) → rest ≡ c ∷ after → c ≡ w → (longer : List ℕ)
       × (text ≡ longer ++ after) × (front ≡ longer ++ more)
   same_more c after r k = (
     begun ++ c ∷ [],
-    a ∙ ap (λ v. begun ++ v) r ∙ sym (append_assoc begun (c ∷ []) after),
-    b ∙ ap (λ v. begun ++ v) (l ∙ ap (λ v. v ∷ more) (sym k))
-        ∙ sym (append_assoc begun (c ∷ []) more),
+    cc (append_assoc begun (c ∷ []) after),
+    cc (append_assoc begun (c ∷ []) more),
   )
 
 -- the number signs that a function passed, as a text of their own
 pub signs : (text mid bytes : List ℕ) → (front : List ℕ) × Skips (λ c. c == 35) text front mid →
     ((front : List ℕ) → text ≡ front ++ mid → chars bytes ≡ front) →
     Skips (λ c. c == 35) text (chars bytes) mid
-signs text mid bytes (front, s) is = subst (λ v. Skips (λ c. c == 35) text v mid)
-    (sym (is front s.cut)) s
+signs text mid bytes (front, s) is = rw (is front s.cut) s
 
 sign_at : (cs : List ℕ) (i : ℕ) → list_all (λ c. c == 35) cs ≡ true → get_or cs i 0 < 128
 sign_at [] i h = IsAscii-nil i

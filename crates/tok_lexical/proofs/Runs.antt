@@ -1,6 +1,6 @@
 -- A run of bytes that pass a test of ASCII is one of characters.
 use Rattle.std.proofs.Common.{◌≡◌, ◌∙◌, ℕ, zero, suc, ◌+◌, ◌<◌, ◌≤◌, List, [], ◌∷◌, ◌++◌, length}
-use Rattle.std.proofs.Common.{refl, sym, ap, subst, arith, Bool, true, false, inl, inr}
+use Rattle.std.proofs.Common.{refl, sym, ap, arith, Bool, true, false, inl, inr}
 use Rattle.std.proofs.Common.{get_or, take, drop, length-append}
 use Rattle.std.specs.Prelude.{encode_utf8, encode_utf8_all}
 use Rattle.std.specs.List.{list_all}
@@ -29,7 +29,7 @@ module _ (pass : ℕ → Bool) (ascii : IsAsciiTest pass) where
       (here ≡ beyond → ⊥) → x < 128
   told_low x here beyond e f apart = elim (cases_lt x 128) [
     | inl low ↦ low
-    | inr high ↦ absurd (apart (sym e ∙ ascii x high ∙ f))
+    | inr high ↦ absurd (apart (cc (ascii x high)))
   ]
 
   -- the first byte of a character passes just if the character does
@@ -39,7 +39,7 @@ module _ (pass : ℕ → Bool) (ascii : IsAsciiTest pass) where
     | inl low ↦ ap pass (byte_from_char text rest c e low)
     | inr high ↦ elim (cases_lt (get_or text 0 0) 128) [
       | inl low ↦ ap pass (sym (char_from_byte text rest c e low some))
-      | inr beyond ↦ ascii (get_or text 0 0) beyond ∙ sym (ascii c high)
+      | inr beyond ↦ cc (ascii (get_or text 0 0) beyond, ascii c high)
     ]
   ]
 
@@ -76,21 +76,20 @@ module _ (pass : ℕ → Bool) (ascii : IsAsciiTest pass) where
   run_boundary text n u run = elim (cases_lt n (length text)) [
     | inl short ↦ inside (pass 128) refl n short (λ k h. run.pass k (omega arith) (omega arith))
         (run.stops short)
-    | inr whole ↦ subst (IsCharBoundary text) (omega (arith, run.few)) (IsCharBoundary-end text)
+    | inr whole ↦ let same : n ≡ length text = omega (arith, run.few) in
+        rw same (IsCharBoundary-end text)
   ]
     where
       inside : (beyond : Bool) → pass 128 ≡ beyond → (n : ℕ) → n < length text →
           AllBefore text n → pass (get_or text (0 + n) 0) ≡ false → IsCharBoundary text n
       inside true e n short all stop =
           let same : 0 + n ≡ n = omega arith in
-          let here = ap (λ i. pass (get_or text i 0)) (sym same) ∙ stop in
           IsCharBoundary-before_ascii text n short
-          (told_low (get_or text n 0) false true here e (λ d. false≢true d))
+          (told_low (get_or text n 0) false true (rw same at stop) e (λ d. false≢true d))
       inside false e zero short all stop = IsCharBoundary-start text u
       inside false e (suc k) short all stop =
           let next : k + 1 ≡ suc k = omega arith in
-          subst (IsCharBoundary text) next
-          (IsCharBoundary-after_ascii text k u (omega arith)
+          rw (← next) (IsCharBoundary-after_ascii text k u (omega arith)
           (told_low (get_or text k 0) true false (all k (omega arith)) e
           (λ d. false≢true (sym d))))
 
@@ -100,10 +99,9 @@ module _ (pass : ℕ → Bool) (ascii : IsAsciiTest pass) where
       IsRun pass text 0 (length text) n → Skips pass (chars text) (chars front) (chars rest)
   skips_run text front rest n u f r l m run =
       let cut = run_boundary text n u run in
-      let v : IsUtf8 front = subst IsUtf8 (sym f) (IsUtf8-take text n u cut) in
-      let w : IsUtf8 rest = subst IsUtf8 (sym r) (IsUtf8-drop text n u cut) in
-      let whole : front ++ rest ≡ text = ap (λ x. x ++ rest) f ∙ ap (λ x. take n text ++ x) r
-      ∙ take-append-drop n text in
+      let v : IsUtf8 front = rw f (IsUtf8-take text n u cut) in
+      let w : IsUtf8 rest = rw r (IsUtf8-drop text n u cut) in
+      let whole : text ≡ front ++ rest = cc (take-append-drop n text) in
       let before : AllBefore front (length front) = λ k h.
       ap (λ xs. pass (get_or xs k 0)) f ∙ ap pass (get_or-take n text k 0 (omega arith))
       ∙ run.pass k (omega arith) (omega arith) in
@@ -111,9 +109,9 @@ module _ (pass : ℕ → Bool) (ascii : IsAsciiTest pass) where
       let here : get_or rest 0 0 ≡ get_or text (0 + n) 0 = ap (λ x. get_or x 0 0) r
       ∙ get_or-drop n text 0 0 ∙ ap (λ i. get_or text i 0) same in
       record {
-        cut = ap chars (sym whole) ∙ chars-append front rest v;
+        cut = rw whole (chars-append front rest v);
         pass = all_pass (chars front)
-            (subst (λ bytes. AllBefore bytes (length bytes)) (sym (encodes-chars front v)) before);
+            (rw (encodes-chars front v) before);
         stops = stops_here (chars rest) rest (encodes-chars rest w)
             (λ some. ap pass here ∙ run.stops (omega arith));
       }

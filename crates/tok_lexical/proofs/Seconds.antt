@@ -1,6 +1,6 @@
 -- What the second character tells.
 use Rattle.std.proofs.Common.{◌≡◌, ◌∙◌, ◌++◌, refl, sym, ℕ, inl, inr, ◌⊎◌, List, [], ◌∷◌, ap}
-use Rattle.std.proofs.Common.{arith, subst, append_assoc}
+use Rattle.std.proofs.Common.{arith, append_assoc}
 use Rattle.std.proofs.lemmas.Bool.{false≢true, eqb-true}
 use Rattle.std.specs.Prelude.{◌==◌, ◌||◌, Bool, true, false, cond, not}
 use Rattle.std.specs.List.{list_all}
@@ -26,18 +26,12 @@ use Rattle.tok_lexical.specs.declared.rule.Rule.TheVariants.{RawIdentifier, Iden
 use Rattle.tok_lexical.specs.declared.rule.Rule.TheVariants.{EscapedChar, BadEscapedChar, PlainChar}
 use Rattle.tok_lexical.specs.declared.rule.Rule.TheVariants.{Lifetime, PlainLifetime, Apostrophe}
 use Rattle.tok_lexical.specs.declared.start.Start.TheVariants as start
-use Rattle.tok_lexical.proofs.EscapedChars.{heads, tails}
 use Rattle.tok_lexical.proofs.First.{decides_begun, fits_before, skip_all, told}
 use Rattle.tok_lexical.proofs.Identifiers.{takes_identifier}
 use Rattle.tok_lexical.proofs.Longest.{takes_one}
 use Rattle.tok_lexical.proofs.Digits.{head_passes, tail_passes}
 
--- what comes after a first character
-second : (j k : ℕ) (rest piece after more : List ℕ) → j ∷ rest ≡ piece ++ after →
-    piece ≡ k ∷ more → rest ≡ more ++ after
-second j k rest piece after more cut e = tails j k rest (more ++ after)
-    (cut ∙ ap (λ w. w ++ after) e)
-
+-- a rule of a number in another base
 abbrev is_based : Rule → Bool
 is_based (Based base) = true
 is_based (BadBased base) = true
@@ -46,17 +40,17 @@ is_based rule = false
 based_names : (rule : Rule) (rest : List ℕ) → is_based rule ≡ true →
     HasPrefix (Spells rule) (48 ∷ rest) → names_base rest ≡ true
 based_names (Based Hexadecimal) rest h (piece, after, cut, (m, e, (n, f, s))) =
-    ap names_base (second 48 48 rest piece after m cut e ∙ ap (λ w. w ++ after) f)
+    let second : rest ≡ 120 ∷ (n ++ after) = cc in rw second refl
 based_names (Based Octal) rest h (piece, after, cut, (m, e, (n, f, s))) =
-    ap names_base (second 48 48 rest piece after m cut e ∙ ap (λ w. w ++ after) f)
+    let second : rest ≡ 111 ∷ (n ++ after) = cc in rw second refl
 based_names (Based Binary) rest h (piece, after, cut, (m, e, (n, f, s))) =
-    ap names_base (second 48 48 rest piece after m cut e ∙ ap (λ w. w ++ after) f)
+    let second : rest ≡ 98 ∷ (n ++ after) = cc in rw second refl
 based_names (BadBased Hexadecimal) rest h (piece, after, cut, e) =
-    ap names_base (second 48 48 rest piece after (120 ∷ []) cut e)
+    let second : rest ≡ 120 ∷ after = cc in rw second refl
 based_names (BadBased Octal) rest h (piece, after, cut, e) =
-    ap names_base (second 48 48 rest piece after (111 ∷ []) cut e)
+    let second : rest ≡ 111 ∷ after = cc in rw second refl
 based_names (BadBased Binary) rest h (piece, after, cut, e) =
-    ap names_base (second 48 48 rest piece after (98 ∷ []) cut e)
+    let second : rest ≡ 98 ∷ after = cc in rw second refl
 based_names rule rest h fits = absurd (false≢true h)
 
 module _ (mode : Mode) (c : ℕ) (text more piece rest : List ℕ) (rule : Rule) (e : text ≡ c ∷ more)
@@ -69,33 +63,29 @@ module _ (mode : Mode) (c : ℕ) (text more piece rest : List ℕ) (rule : Rule)
       IsFirstFit text (rules_of mode) rule piece rest
   decides_zero is n =
       let zero : c ≡ 48 = eqb-true c 48 (told c start.Zero is) in
-      let whole : text ≡ 48 ∷ more = e ∙ ap (λ w. w ∷ more) zero in
+      let whole : text ≡ 48 ∷ more = cc in
       decides_begun mode c more start.Zero e is
       (skip_all mode is_based
       (λ r h fits. false≢true
-      (sym n ∙ based_names r more h (subst (HasPrefix (Spells r)) whole fits))) based_rules
+      (sym n ∙ based_names r more h (rw whole at fits))) based_rules
       (decimal_rules ++ last_rules) refl (fits_before mode decimal_rules last_rules d))
-
-or_second : (a b d : Bool) → b ≡ true → (a || (b || d)) ≡ true
-or_second true b d e = refl
-or_second false true d e = refl
-or_second false false d e = absurd (false≢true e)
 
 hashes_open : (hashes more : List ℕ) → list_all (λ c. c == 35) hashes ≡ true →
     opens_string (hashes ++ 34 ∷ more) ≡ true
 hashes_open [] more a = refl
-hashes_open (c ∷ hashes) more a = ap (λ d. opens_string (d ∷ (hashes ++ 34 ∷ more)))
-    (eqb-true c 35 (head_passes (λ d. d == 35) c hashes a))
+hashes_open (c ∷ hashes) more a =
+    rw (eqb-true c 35 (head_passes (λ d. d == 35) c hashes a)) refl
 
 -- hashes and a quote after the letter, or after the letter and an r
 raw_opens : (rest hashes more : List ℕ) → rest ≡ hashes ++ 34 ∷ more →
     list_all (λ c. c == 35) hashes ≡ true → opens_literal rest ≡ true
-raw_opens rest hashes more e a = ap opens_literal e ∙ or_second _ _ _ (hashes_open hashes more a)
+raw_opens rest hashes more e a = let opens = hashes_open hashes more a in rw e (grind arith)
 
 letter_opens : (rest hashes more : List ℕ) → rest ≡ 114 ∷ (hashes ++ 34 ∷ more) →
     list_all (λ c. c == 35) hashes ≡ true → opens_literal rest ≡ true
-letter_opens rest hashes more e a = ap opens_literal e ∙ hashes_open hashes more a
+letter_opens rest hashes more e a = rw e (hashes_open hashes more a)
 
+-- a rule of a literal with a prefix, or of what begins as one
 abbrev is_literal : Rule → Bool
 is_literal ByteChar = true
 is_literal BadByteChar = true
@@ -126,42 +116,36 @@ hashed k piece hashes more other e a = (
   114 ∷ (hashes ++ 34 ∷ more),
   e,
   other,
-  λ after. letter_opens _ hashes (more ++ after)
-      (ap (λ w. 114 ∷ w) (append_assoc hashes (34 ∷ more) after)) a,
+  λ after. rw (append_assoc hashes (34 ∷ more) after) (hashes_open hashes (more ++ after) a),
 )
 
 prefixed : (k : ℕ) (piece m : List ℕ) → (k == 114) ≡ false → piece ≡ k ∷ m → IsPrefixed m →
     IsLetterHead piece
 prefixed k piece m other e (inl f) =
-    (k, 34 ∷ [], e ∙ ap (λ w. k ∷ w) f, other, λ after. refl)
-prefixed k piece m other e (inr (n, f, (hashes, g, a))) = hashed k piece hashes [] other
-    (e ∙ ap (λ w. k ∷ w) (f ∙ ap (λ w. 114 ∷ w) g)) a
+    (k, 34 ∷ [], cc, other, λ after. refl)
+prefixed k piece m other e (inr (n, f, (hashes, g, a))) = hashed k piece hashes [] other (cc) a
 
 -- how a literal with a prefix begins
 literal_head : (rule : Rule) (piece : List ℕ) → is_literal rule ≡ true → Spells rule piece →
     IsRawHead piece ⊎ IsLetterHead piece
 literal_head ByteChar piece h (m, e, (inner, suffix, f, i, k)) =
-    inr (98, 39 ∷ (inner ++ 39 ∷ suffix), e ∙ ap (λ w. 98 ∷ w) f, refl, λ after. refl)
+    inr (98, 39 ∷ (inner ++ 39 ∷ suffix), cc, refl, λ after. refl)
 literal_head BadByteChar piece h e = inr (98, 39 ∷ [], e, refl, λ after. refl)
-literal_head StringPrefix piece h (inl (m, e, (hashes, f, a))) =
-    inl (hashes, [], e ∙ ap (λ w. 114 ∷ w) f, a)
+literal_head StringPrefix piece h (inl (m, e, (hashes, f, a))) = inl (hashes, [], cc, a)
 literal_head StringPrefix piece h (inr (inl (m, e, s))) = inr (prefixed 98 piece m refl e s)
 literal_head StringPrefix piece h (inr (inr (m, e, s))) = inr (prefixed 99 piece m refl e s)
 literal_head (QuotedString Text) piece h s = absurd (false≢true h)
 literal_head (QuotedString Bytes) piece h (m, e, (body, suffix, f, u, k)) =
-    inr (98, 34 ∷ (body ++ 34 ∷ suffix), e ∙ ap (λ w. 98 ∷ w) f, refl, λ after. refl)
+    inr (98, 34 ∷ (body ++ 34 ∷ suffix), cc, refl, λ after. refl)
 literal_head (QuotedString C) piece h (m, e, (body, suffix, f, u, k)) =
-    inr (99, 34 ∷ (body ++ 34 ∷ suffix), e ∙ ap (λ w. 99 ∷ w) f, refl, λ after. refl)
+    inr (99, 34 ∷ (body ++ 34 ∷ suffix), cc, refl, λ after. refl)
 literal_head (RawString Text) piece h (m, e, (hashes, body, suffix, f, a, l, ends, k)) =
-    inl (hashes, body ++ suffix, e ∙ ap (λ w. 114 ∷ w) f, a)
+    inl (hashes, body ++ suffix, cc, a)
 literal_head (RawString Bytes) piece h (m, e, (n, g, (hashes, body, suffix, f, a, l, ends, k))) =
-    inr (hashed 98 piece hashes (body ++ suffix) refl
-    (e ∙ ap (λ w. 98 ∷ w) (g ∙ ap (λ w. 114 ∷ w) f)) a)
+    inr (hashed 98 piece hashes (body ++ suffix) refl (cc) a)
 literal_head (RawString C) piece h (m, e, (n, g, (hashes, body, suffix, f, a, l, ends, k))) =
-    inr (hashed 99 piece hashes (body ++ suffix) refl
-    (e ∙ ap (λ w. 99 ∷ w) (g ∙ ap (λ w. 114 ∷ w) f)) a)
-literal_head (BadPrefixed Text) piece h (m, e, (hashes, f, a)) =
-    inl (hashes, [], e ∙ ap (λ w. 114 ∷ w) f, a)
+    inr (hashed 99 piece hashes (body ++ suffix) refl (cc) a)
+literal_head (BadPrefixed Text) piece h (m, e, (hashes, f, a)) = inl (hashes, [], cc, a)
 literal_head (BadPrefixed Bytes) piece h (m, e, s) = inr (prefixed 98 piece m refl e s)
 literal_head (BadPrefixed C) piece h (m, e, s) = inr (prefixed 99 piece m refl e s)
 literal_head rule piece h s = absurd (false≢true h)
@@ -171,46 +155,37 @@ literal_opens : (rule : Rule) (c : ℕ) (rest : List ℕ) → is_literal rule �
 literal_opens rule c rest h (piece, after, cut, s) = go (literal_head rule piece h s)
   where
     go : IsRawHead piece ⊎ IsLetterHead piece → opens_literal rest ≡ true
-    go (inl (hashes, more, e, a)) = raw_opens rest hashes (more ++ after)
-        (second c 114 rest piece after _ cut e ∙ append_assoc hashes (34 ∷ more) after) a
+    go (inl (hashes, more, e, a)) =
+        raw_opens rest hashes (more ++ after) (cc (append_assoc hashes (34 ∷ more) after)) a
     go (inr (k, more, e, other, opens)) =
-        ap opens_literal (second c k rest piece after more cut e) ∙ opens after
+        let second : rest ≡ more ++ after = cc in rw second (opens after)
 
 -- a raw identifier does too
 raw_name_opens : (c : ℕ) (rest : List ℕ) → HasPrefix IsRawIdentifier (c ∷ rest) →
     opens_literal rest ≡ true
 raw_name_opens c rest (piece, after, cut, (m, e, (n, f, s))) =
-    ap opens_literal (second c 114 rest piece after m cut e ∙ ap (λ w. w ++ after) f)
+    let second : rest ≡ 35 ∷ (n ++ after) = cc in rw second refl
 
 letter : (c : ℕ) → is_prefix c ≡ true → is_identifier_start c ≡ true
-letter c h = go (c == 98) (c == 99) refl refl h
-  where
-    go : (a b : Bool) → (c == 98) ≡ a → (c == 99) ≡ b → (a || (b || (c == 114))) ≡ true →
-        is_identifier_start c ≡ true
-    go true b e f k = ap is_identifier_start (eqb-true c 98 e)
-        ∙ ap (λ x. x || (98 == 95)) (is_xid_start-ascii 98 (omega arith))
-    go false true e f k = ap is_identifier_start (eqb-true c 99 f)
-        ∙ ap (λ x. x || (99 == 95)) (is_xid_start-ascii 99 (omega arith))
-    go false false e f k = ap is_identifier_start (eqb-true c 114 k)
-        ∙ ap (λ x. x || (114 == 95)) (is_xid_start-ascii 114 (omega arith))
+letter c h =
+    let b = is_xid_start-ascii 98 (omega arith) in
+    let d = is_xid_start-ascii 99 (omega arith) in
+    let r = is_xid_start-ascii 114 (omega arith) in
+    grind arith
 
 no_start : (d k : ℕ) → is_identifier_start d ≡ true → d ≡ k → is_identifier_start k ≡ false → ⊥
-no_start d k h e n = false≢true (sym n ∙ ap is_identifier_start (sym e) ∙ h)
+no_start d k h e n = false≢true (sym n ∙ rw e at h)
 
 -- after a number sign and the start of an identifier
 no_quote : (d : ℕ) (more after hashes : List ℕ) → is_identifier_start d ≡ true →
     list_all (λ c. c == 35) hashes ≡ true → 35 ∷ d ∷ more ≡ hashes ++ 34 ∷ after → ⊥
-no_quote d more after [] h a e = false≢true (ap (λ x. x == 34) (heads 35 34 (d ∷ more) after e))
+no_quote d more after [] h a e = grind arith
 no_quote d more after (c ∷ []) h a e =
-    no_start d 34 h (heads d 34 more after (tails 35 c (d ∷ more) (34 ∷ after) e))
-    (ap (λ x. x || (34 == 95)) (is_xid_start-ascii 34 (omega arith)))
+    no_start d 34 h (cc) (ap (λ x. x || (34 == 95)) (is_xid_start-ascii 34 (omega arith)))
 no_quote d more after (c ∷ b ∷ hashes) h a e =
-    no_start d 35 h
-    (heads d b more (hashes ++ 34 ∷ after)
-    (tails 35 c (d ∷ more) (b ∷ (hashes ++ 34 ∷ after)) e)
-    ∙ eqb-true b 35
-    (head_passes (λ x. x == 35) b hashes (tail_passes (λ x. x == 35) c (b ∷ hashes) a)))
-    (ap (λ x. x || (35 == 95)) (is_xid_start-ascii 35 (omega arith)))
+    let sign = eqb-true b 35
+    (head_passes (λ x. x == 35) b hashes (tail_passes (λ x. x == 35) c (b ∷ hashes) a)) in
+    no_start d 35 h (cc) (ap (λ x. x || (35 == 95)) (is_xid_start-ascii 35 (omega arith)))
 
 -- a raw identifier begins no literal
 raw_misses : (rule : Rule) (text piece rest : List ℕ) → is_literal rule ≡ true →
@@ -220,16 +195,14 @@ raw_misses rule text piece rest l t fits = go t.spelled
     other : (d : ℕ) (more front after : List ℕ) → is_identifier_start d ≡ true →
         114 ∷ 35 ∷ d ∷ more ≡ front ++ after → IsRawHead front ⊎ IsLetterHead front → ⊥
     other d more front after h cut (inl (hashes, tail, e, a)) =
-        no_quote d more (tail ++ after) hashes h a
-        (second 114 114 _ front after _ cut e ∙ append_assoc hashes (34 ∷ tail) after)
+        no_quote d more (tail ++ after) hashes h a (cc (append_assoc hashes (34 ∷ tail) after))
     other d more front after h cut (inr (k, tail, e, n, opens)) =
-        let same : 114 ≡ k = heads 114 k _ (tail ++ after) (cut ∙ ap (λ w. w ++ after) e) in
-        false≢true (sym n ∙ ap (λ x. x == 114) (sym same))
+        let same : k ≡ 114 = cc in false≢true (sym n ∙ rw same refl)
 
     go : IsRawIdentifier piece → ⊥
     go (m, e, ([], f, w)) = w
     go (m, e, (d ∷ name, f, w)) = other d (name ++ rest) fits.0 fits.1 w.0
-        (sym (t.cut ∙ ap (λ v. v ++ rest) (e ∙ ap (λ v. 114 ∷ v) f)) ∙ fits.2)
+        (cc (t.cut, fits.2))
         (literal_head rule fits.0 l fits.3)
 
 module _ (mode : Mode) (c : ℕ) (text more : List ℕ) (e : text ≡ c ∷ more)
@@ -244,10 +217,10 @@ module _ (mode : Mode) (c : ℕ) (text more : List ℕ) (e : text ≡ c ∷ more
         decides_begun mode c more start.Prefix e is
             (skip_all mode is_literal
             (λ q h fits. false≢true
-            (sym n ∙ literal_opens q c more h (subst (HasPrefix (Spells q)) e fits)))
+            (sym n ∙ literal_opens q c more h (rw e at fits)))
             literal_rules (RawIdentifier ∷ last_rules) refl
             (later (λ fits. false≢true
-            (sym n ∙ raw_name_opens c more (subst (HasPrefix IsRawIdentifier) e fits)))
+            (sym n ∙ raw_name_opens c more (rw e at fits)))
             (here t.1))),
       )
 
@@ -278,13 +251,11 @@ module _ (mode : Mode) (text more : List ℕ) (e : text ≡ 39 ∷ more) where
   -- with no backslash after it
   module _ (n : (after : List ℕ) → more ≡ 92 ∷ after → ⊥) where
     no_escape : (piece after tail : List ℕ) → text ≡ piece ++ after → piece ≡ 39 ∷ 92 ∷ tail → ⊥
-    no_escape piece after tail cut f =
-        n (tail ++ after) (second 39 39 more piece after (92 ∷ tail) (sym e ∙ cut) f)
+    no_escape piece after tail cut f = n (tail ++ after) (cc)
 
     no_escaped : HasPrefix (IsQuoted IsEscapedChar) text → ⊥
     no_escaped (piece, after, cut, (inner, suffix, f, (tail, g, k), s)) =
-        no_escape piece after (tail ++ 39 ∷ suffix) cut
-        (f ∙ ap (λ w. 39 ∷ (w ++ 39 ∷ suffix)) g)
+        no_escape piece after (tail ++ 39 ∷ suffix) cut (cc)
 
     no_bad_escaped : HasPrefix (Spells BadEscapedChar) text → ⊥
     no_bad_escaped (piece, after, cut, f) = no_escape piece after [] cut f
@@ -308,8 +279,8 @@ module _ (mode : Mode) (text more : List ℕ) (e : text ≡ 39 ∷ more) where
           IsFirstFit text (after_char raw) rule piece rest →
           IsFirstFit text (rules_of mode) rule piece rest
       fits_after raw piece rest rule h d =
-          let those = subst (λ b. IsFirstFit text (after_char b) rule piece rest) (sym h) d in
-          fits_quoted piece rest rule (later no_escaped (later no_bad_escaped (later misses those)))
+          fits_quoted piece rest rule
+          (later no_escaped (later no_bad_escaped (later misses (rw h d))))
 
       lone : (raw : Bool) → (HasPrefix (Spells (cond raw Lifetime PlainLifetime)) text → ⊥) →
           IsFirstFit text (after_char raw) Apostrophe (39 ∷ []) more

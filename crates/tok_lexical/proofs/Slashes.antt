@@ -1,5 +1,5 @@
 -- What begins with a slash.
-use Rattle.std.proofs.Common.{◌≡◌, ◌∙◌, ◌++◌, refl, sym, ℕ, List, [], ◌∷◌, ap, arith, subst}
+use Rattle.std.proofs.Common.{◌≡◌, ◌∙◌, ◌++◌, refl, sym, ℕ, List, [], ◌∷◌, ap, arith}
 use Rattle.std.proofs.lemmas.Bool.{false≢true, eqb-true}
 use Rattle.std.specs.Prelude.{false, ◌==◌, ◌||◌}
 use Rattle.unicode_ident.proofs.IdentLemmas.{is_xid_start-ascii}
@@ -24,20 +24,16 @@ use Rattle.tok_lexical.proofs.Longest.{takes_after_pair, takes_one}
 line_second : (text : List ℕ) → HasPrefix IsLineComment (47 ∷ text) → (more : List ℕ)
     × (text ≡ 47 ∷ more)
 line_second text (piece, after, cut, (body, e, a)) =
-    let whole : 47 ∷ text ≡ 47 ∷ 47 ∷ (body ++ after) = cut ∙ ap (λ w. w ++ after) e in
     (body ++ after, cc)
 
 block_second : (text : List ℕ) → HasPrefix IsBlockComment (47 ∷ text) → (more : List ℕ)
     × (text ≡ 42 ∷ more)
 block_second text (piece, after, cut, (body, e, a)) =
-    let whole : 47 ∷ text ≡ 47 ∷ 42 ∷ (body ++ after) = cut ∙ ap (λ w. w ++ after) e in
     (body ++ after, cc)
 
 open_second : (text : List ℕ) → HasPrefix (Spells OpenComment) (47 ∷ text) → (more : List ℕ)
     × (text ≡ 42 ∷ more)
-open_second text (piece, after, cut, e) =
-    let whole : 47 ∷ text ≡ 47 ∷ 42 ∷ after = cut ∙ ap (λ w. w ++ after) e in
-    (after, cc)
+open_second text (piece, after, cut, e) = (after, cc)
 
 no_identifier : (text : List ℕ) → HasPrefix IsIdentifier (47 ∷ text) → ⊥
 no_identifier text = no_name (47 ∷ text)
@@ -52,7 +48,7 @@ pub decides_line : (mode : Mode) (text mid rest : List ℕ) → text ≡ 47 ∷ 
     × Skips is_not_line_feed mid front rest → (piece : List ℕ)
     × IsFirstFit (47 ∷ text) (rules_of mode) LineComment piece rest
 decides_line mode text mid rest e s =
-    let t = takes_after_pair 47 47 is_not_line_feed (47 ∷ text) mid rest (ap (λ w. 47 ∷ w) e) s in
+    let t = takes_after_pair 47 47 is_not_line_feed (47 ∷ text) mid rest (cc) s in
     (t.0, decides_begun mode 47 text start.Slash refl refl (here t.1))
 
 pub decides_block : (mode : Mode) (text mid rest : List ℕ) → text ≡ 42 ∷ mid → (front : List ℕ)
@@ -62,7 +58,7 @@ decides_block mode text mid rest e (front, t) = (
   47 ∷ 42 ∷ front,
   decides_begun mode 47 text start.Slash refl refl
       (later (no_line text mid e)
-      (here (takes_marked (47 ∷ text) mid rest front (ap (λ w. 47 ∷ w) e) t))),
+      (here (takes_marked (47 ∷ text) mid rest front (cc) t))),
 )
 
 decides_lone : (mode : Mode) (text : List ℕ) → ((more : List ℕ) → text ≡ 47 ∷ more → ⊥) →
@@ -80,9 +76,7 @@ pub decides_alone : (mode : Mode) (c : ℕ) (text more : List ℕ) → text ≡ 
     × IsFirstFit text (rules_of mode) Punct piece more
 decides_alone mode c text more e is alone =
     let slash : c ≡ 47 = eqb-true c 47 (told c start.Slash is) in
-    let whole : text ≡ 47 ∷ more = e ∙ ap (λ w. w ∷ more) slash in
-    let t = decides_lone mode more
-    (λ after f. false≢true (sym alone ∙ ap begins_comment (whole ∙ ap (λ w. 47 ∷ w) f)))
-    (λ after f. false≢true (sym alone ∙ ap begins_comment (whole ∙ ap (λ w. 47 ∷ w) f)))
-    in
-    (47 ∷ [], subst (λ w. IsFirstFit w (rules_of mode) Punct (47 ∷ []) more) (sym whole) t)
+    let whole : text ≡ 47 ∷ more = cc in
+    let t = decides_lone mode more (λ after f. false≢true (rw (whole, f) at (sym alone)))
+    (λ after f. false≢true (rw (whole, f) at (sym alone))) in
+    (47 ∷ [], rw whole t)

@@ -1,20 +1,19 @@
 -- Where a source begins.
-use Rattle.std.proofs.Common.{◌≡◌, ◌∙◌, ◌<◌, ℕ, suc, List, [], ◌∷◌, ◌++◌, refl, sym, ap, subst}
-use Rattle.std.proofs.Common.{arith, true, false, Bool, length, append_assoc}
-use Rattle.std.specs.Prelude.{◌==◌, if◌then◌else◌, MatchBool}
-use Rattle.std.proofs.lemmas.Bool.{false≢true, eqb-true}
+use Rattle.std.proofs.Common.{◌≡◌, ◌∙◌, ◌<◌, ℕ, suc, List, [], ◌∷◌, ◌++◌, refl, sym, ap, arith}
+use Rattle.std.proofs.Common.{true, false, Bool, length, append_assoc}
+use Rattle.std.specs.Prelude.{◌==◌, MatchBool}
+use Rattle.std.proofs.lemmas.Bool.{cond_both, false≢true, eqb-true}
 use Rattle.tok_lexical.specs.Characters.{is_whitespace}
 use Rattle.tok_lexical.specs.Comments.{is_not_line_feed}
 use Rattle.tok_lexical.specs.Pieces.{Skips, begins_with}
 use Rattle.tok_lexical.specs.Fits.{IsFirstFit, here, later, NoneBefore}
 use Rattle.tok_lexical.specs.Rules.{rules_of}
 use Rattle.tok_lexical.specs.declared.edition.Edition.TheVariants.{Edition2021}
-use Rattle.tok_lexical.specs.Sources.{is_blank_piece, Blanks, over, blank, OpensAttribute}
-use Rattle.tok_lexical.specs.Sources.{Begins, shebang, no_shebang, past_mark, BeginsAt}
+use Rattle.tok_lexical.specs.Sources.{is_blank_piece, Blanks, over, blank, OpensAttribute, Begins}
+use Rattle.tok_lexical.specs.Sources.{shebang, no_shebang, past_mark, BeginsAt}
 use Rattle.tok_lexical.specs.declared.rule.Mode.TheVariants.{Source}
 use Rattle.tok_lexical.specs.declared.rule.Rule.{Rule}
-use Rattle.tok_lexical.specs.declared.rule.Rule.TheVariants.{Whitespace, LineComment}
-use Rattle.tok_lexical.specs.declared.rule.Rule.TheVariants.{BlockComment}
+use Rattle.tok_lexical.specs.declared.rule.Rule.TheVariants.{Whitespace, LineComment, BlockComment}
 use Rattle.tok_lexical.proofs.EscapedChars.{heads, tails}
 use Rattle.std.specs.Str.{chars, IsUtf8}
 use Rattle.std.proofs.lemmas.Str.{length-le-encodes}
@@ -23,6 +22,7 @@ use Rattle.tok_lexical.proofs.Fits.{fits_longest, decides_unique}
 use Rattle.tok_lexical.proofs.Heads.{spelled_one}
 use Rattle.tok_lexical.proofs.Digits.{all_stops}
 
+-- no blank piece is at the front of the text
 abbrev pub IsLast : List ℕ → Type 0
 IsLast text = (rule : Rule) → (taken after : List ℕ) →
     IsFirstFit text (rules_of (Source Edition2021))
@@ -42,9 +42,9 @@ blanks_one b d h = blanks_more b (blank d h over)
 pub last_found : {text taken rest : List ℕ} {rule : Rule} →
     IsFirstFit text (rules_of (Source Edition2021)) rule taken rest → is_blank_piece rule taken
     ≡ false → IsLast text
-last_found {taken = taken} d h other front after e k =
+last_found {taken = taken} d h q front after e k =
     let w = decides_unique d e in
-    false≢true (sym h ∙ ap (λ r. is_blank_piece r taken) w.0 ∙ ap (is_blank_piece other) w.1 ∙ k)
+    false≢true (rw (w.0, w.1) at (sym h) ∙ k)
 
 pub last_none : (text : List ℕ) → NoneBefore (rules_of (Source Edition2021)) text
     (length (rules_of (Source Edition2021))) → IsLast text
@@ -78,7 +78,7 @@ blanks_same over n (blank d h b) m = absurd (n _ _ _ d h)
 blanks_same (blank d h a) n over m = absurd (m _ _ _ d h)
 blanks_same {one = one} {other = other} (blank d h a) n (blank d' h' b) m =
     let w = decides_unique d d' in
-    blanks_same (subst (λ v. Blanks v one) w.2 a) n b m
+    blanks_same (rw w.2 at a) n b m
 
 -- a bracket is no such piece
 bracket_last : (after : List ℕ) → IsLast (91 ∷ after)
@@ -89,24 +89,22 @@ bracket_last after rule taken rest d h = go rule d h
     go Whitespace d h =
         let t = fits_longest d in
         let s = t.spelled in
-        let head : 91 ≡ s.0 = heads 91 s.0 after rest (t.cut ∙ ap (λ w. w ++ rest) s.2) in
+        let head : 91 ≡ s.0 = cc (t.cut, s.2) in
         false≢true (ap is_whitespace head ∙ s.1)
     go LineComment d h =
         let t = fits_longest d in
-        let s = t.spelled in
-        absurd (let w = heads 91 47 after (47 ∷ (s.0 ++ rest)) (t.cut ∙ ap (λ w. w ++ rest) s.1)
-        in omega arith)
+        let whole : 91 ∷ after ≡ 47 ∷ 47 ∷ (t.spelled.0 ++ rest) = cc (t.cut, t.spelled.1) in
+        omega (arith, heads 91 47 _ _ whole)
     go BlockComment d h =
         let t = fits_longest d in
-        let s = t.spelled in
-        absurd (let w = heads 91 47 after (42 ∷ (s.0 ++ rest)) (t.cut ∙ ap (λ w. w ++ rest) s.1)
-        in omega arith)
+        let whole : 91 ∷ after ≡ 47 ∷ 42 ∷ (t.spelled.0 ++ rest) = cc (t.cut, t.spelled.1) in
+        omega (arith, heads 91 47 _ _ whole)
     go rule d h = absurd (false≢true h)
 
 bracket_opens : (text rest : List ℕ) → begins_with 91 rest ≡ true → Blanks text rest →
     OpensAttribute text
 bracket_opens text [] h b = absurd (false≢true h)
-bracket_opens text (c ∷ rest) h b = (rest, subst (λ w. Blanks text (w ∷ rest)) (eqb-true c 91 h) b)
+bracket_opens text (c ∷ rest) h b = (rest, rw (eqb-true c 91 h) at b)
 
 pub attribute : (text rest : List ℕ) (found : Bool) → found ≡ begins_with 91 rest →
     Blanks text rest → IsLast rest → MatchBool found (OpensAttribute text) (OpensAttribute text →
@@ -126,22 +124,7 @@ not_begun text n = no_shebang (λ (rest, e, o). n rest e)
 pub is_attribute : (text rest : List ℕ) → text ≡ 35 ∷ 33 ∷ rest → OpensAttribute rest →
     Begins text text
 is_attribute text rest e o = no_shebang (λ (other, f, n).
-    let same : rest ≡ other =
-    tails 33 33 rest other (tails 35 35 (33 ∷ rest) (33 ∷ other) (sym e ∙ f)) in
-    n (subst OpensAttribute same o))
-
-pub skips_mark : (text : List ℕ) (c : ℕ) (rest : List ℕ) → text ≡ c ∷ rest → c ≡ 0xFEFF →
-    rest ≡ past_mark text
-skips_mark text c rest e k = sym (ap past_mark (e ∙ ap (λ w. w ∷ rest) k))
-
-pub unmarked_stays : (text : List ℕ) → ((rest : List ℕ) → text ≡ 0xFEFF ∷ rest → ⊥) →
-    text ≡ past_mark text
-unmarked_stays [] n = refl
-unmarked_stays (c ∷ text) n = go (c == 0xFEFF) refl
-  where
-    go : (b : Bool) → (c == 0xFEFF) ≡ b → c ∷ text ≡ (if b then text else c ∷ text)
-    go true e = absurd (n text (ap (λ w. w ∷ text) (eqb-true c 0xFEFF e)))
-    go false e = refl
+    n (rw (tails 33 33 rest other (tails 35 35 _ _ (sym e ∙ f))) at o))
 
 -- a source begins at one place
 skips_same : (text one other front other_front : List ℕ) → Skips is_not_line_feed text front
@@ -164,15 +147,12 @@ begins_cut (no_shebang n) = ([], refl)
 
 mark_cut : (text : List ℕ) → (front : List ℕ) × (text ≡ front ++ past_mark text)
 mark_cut [] = ([], refl)
-mark_cut (c ∷ text) = go (c == 0xFEFF)
-  where
-    go : (b : Bool) → (front : List ℕ) × (c ∷ text ≡ front ++ (if b then text else c ∷ text))
-    go true = (c ∷ [], refl)
-    go false = ([], refl)
+mark_cut (c ∷ text) = cond_both (c == 0xFEFF) text (c ∷ text)
+    (λ rest. (front : List ℕ) × (c ∷ text ≡ front ++ rest)) (λ e. (c ∷ [], refl)) (λ e. ([], refl))
 
 pub source_cut : (text rest : List ℕ) → BeginsAt text rest → (front : List ℕ)
     × (text ≡ front ++ rest)
 source_cut text rest b =
     let m = mark_cut text in
     let c = begins_cut b in
-    (m.0 ++ c.0, m.1 ∙ ap (λ w. m.0 ++ w) c.1 ∙ sym (append_assoc m.0 c.0 rest))
+    (m.0 ++ c.0, cc (m.1, c.1, append_assoc m.0 c.0 rest))

@@ -67,19 +67,22 @@ meant b =
 by_table : (c : ℕ) → c < 128 → meant (get_or ASCII c 0) ≡ ascii_start c
 by_table c h = in_table meant ascii_start ASCII Rest c refl refl h
 
-pub start_by : (c b : ℕ) → c < 128 → get_or ASCII c 0 ≡ b → meant b ≡ start_of c
-start_by c b h e =
-    ap meant (sym e) ∙ by_table c h ∙ ap (λ letter. start_if (letter || (c == 95)) c)
-    (sym (is_xid_start-ascii c h))
+-- what a character starts, by its byte in the table
+pub start_by : (c : ℕ) → c < 128 → start_of c ≡ meant (get_or ASCII c 0)
+start_by c h =
+    sym (by_table c h ∙ ap (λ letter. start_if (letter || (c == 95)) c)
+    (sym (is_xid_start-ascii c h)))
 
 -- a byte of the table, where the character is told by it
 told_at : (b : ℕ) (is : ℕ → Bool) → map (λ x. x == b) ASCII ≡ map is (range_with_len 0 128) →
     (c : ℕ) → c < 128 → (get_or ASCII c 0 == b) ≡ is c
 told_at b is same c h = in_table (λ x. x == b) is ASCII false c same refl h
 
+-- an ASCII letter or an underscore that is no prefix of a literal
 abbrev pub is_letter : ℕ → Bool
 is_letter c = (is_ascii_alphabetic c || (c == 95)) && not (is_prefix c)
 
+-- a punct other than a slash
 abbrev pub is_other_punct : ℕ → Bool
 is_other_punct c = is_punct c && not (c == 47)
 
@@ -98,13 +101,19 @@ punct_low c h = let l : c ≤ 126 = search (rules, tests) in omega arith
 -- what such a character starts
 pub letter_starts : (c : ℕ) → is_letter c ≡ true → start_of c ≡ Letter
 letter_starts c h =
-    sym (start_by c 97 (letter_low c h)
-    (eqb-true (get_or ASCII c 0) 97 (letter_by c (letter_low c h) ∙ h)))
+    rw (
+      start_by c (letter_low c h),
+      eqb-true (get_or ASCII c 0) 97
+          (letter_by c (letter_low c h) ∙ h),
+    ) refl
 
 pub punct_starts : (c : ℕ) → is_other_punct c ≡ true → start_of c ≡ Punct
 punct_starts c h =
-    sym (start_by c 43 (punct_low c h)
-    (eqb-true (get_or ASCII c 0) 43 (punct_by c (punct_low c h) ∙ h)))
+    rw (
+      start_by c (punct_low c h),
+      eqb-true (get_or ASCII c 0) 43
+          (punct_by c (punct_low c h) ∙ h),
+    ) refl
 
 pub begins_letter_by : (text : List ℕ) (x : ℕ) → IsUtf8 text → 0 < length text →
     x ≡ get_or text 0 0 → is_letter x ≡ begins_letter (chars text)

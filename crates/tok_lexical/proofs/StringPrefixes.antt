@@ -12,7 +12,7 @@ use Rattle.tok_lexical.specs.Strings.{IsHashes, IsPrefixed, IsPrefixOf, IsString
 use Rattle.tok_lexical.specs.declared.contents.Contents.{Contents}
 use Rattle.tok_lexical.specs.declared.contents.Contents.TheVariants.{Text, Bytes, C}
 use Rattle.tok_lexical.proofs.Longest.{list_all_push, IsFree, finds_after}
-use Rattle.tok_lexical.proofs.EscapedChars.{heads, tails, fronts_swap, all_stop, free_after}
+use Rattle.tok_lexical.proofs.EscapedChars.{all_stop, free_after}
 use Rattle.tok_lexical.proofs.Digits.{all_stops}
 
 -- raw strings
@@ -21,8 +21,7 @@ pub hashes_more : (text mid rest front : List ℕ) → text ≡ front ++ mid →
     × (text ≡ longer ++ rest) × (list_all (λ c. c == 35) longer ≡ true)
 hashes_more text mid rest front e a g = (
   front ++ 35 ∷ [],
-  e ∙ ap (λ w. front ++ w) g
-      ∙ sym (append_assoc front (35 ∷ []) rest),
+  cc (append_assoc front (35 ∷ []) rest),
   list_all_push (λ c. c == 35) front 35 a refl,
 )
 
@@ -42,22 +41,19 @@ pub finds_hashes : (text rest front : List ℕ) (answer : Option (Bor (List ℕ)
     (λ last. rest ≡ 34 ∷ chars last.now) → ReadsPrefix IsHashes text answer
 finds_hashes text rest front None s misses = λ (piece, after, cut, (hs, e, a)).
     let w = all_stops (λ c. c == 35) front hs rest (34 ∷ after) s.pass a s.stops refl
-    (sym s.cut ∙ cut ∙ ap (λ v. v ++ after) e ∙ append_assoc hs (34 ∷ []) after) in
+    (cc (s.cut, append_assoc hs (34 ∷ []) after)) in
     misses after w.1
 finds_hashes text rest front (Some last) s e = (
   front ++ 34 ∷ [],
-  s.cut ∙ ap (λ v. front ++ v) e
-      ∙ sym (append_assoc front (34 ∷ []) (chars last.now)),
+  cc (s.cut, append_assoc front (34 ∷ []) (chars last.now)),
   (front, refl, s.pass),
 )
 
 free_hashes : IsFree IsHashes
 free_hashes a b (hs, e, p) (ks, f, q) x y g =
-    let whole : (hs ++ 34 ∷ []) ++ x ≡ (ks ++ 34 ∷ []) ++ y =
-    fronts_swap a b (hs ++ 34 ∷ []) (ks ++ 34 ∷ []) x y e f g in
-    let w = all_stop (λ c. c == 35) 34 hs ks x y refl p q (sym (append_assoc hs (34 ∷ []) x)
-    ∙ whole ∙ append_assoc ks (34 ∷ []) y) in
-    (e ∙ ap (λ v. v ++ 34 ∷ []) w.0 ∙ sym f, w.1)
+    let w = all_stop (λ c. c == 35) 34 hs ks x y refl p q
+    (cc (append_assoc hs (34 ∷ []) x, append_assoc ks (34 ∷ []) y)) in
+    (cc, w.1)
 
 pub prefixed_quote : (text rest : List ℕ) → text ≡ 34 ∷ rest → (piece : List ℕ)
     × (text ≡ piece ++ rest) × IsPrefixed piece
@@ -67,18 +63,13 @@ pub prefixed_raw : (text : List ℕ) (answer : Option (Bor (List ℕ))) →
     ((more : List ℕ) → text ≡ 34 ∷ more → ⊥) → ReadsPrefix (After 114 IsHashes) text answer →
     ReadsPrefix IsPrefixed text answer
 prefixed_raw text None a misses = λ (piece, after, cut, h). elim h
-    [ inl e ↦ a after (cut ∙ ap (λ w. w ++ after) e) | inr s ↦ misses (piece, after, cut, s) ]
+    [ inl e ↦ a after (cc) | inr s ↦ misses (piece, after, cut, s) ]
 prefixed_raw text (Some rest) a (piece, cut, s) = (piece, cut, inr s)
 
 free_prefixed : IsFree IsPrefixed
-free_prefixed a b (inl e) (inl f) x y g =
-    (e ∙ sym f, tails 34 34 x y (fronts_swap a b (34 ∷ []) (34 ∷ []) x y e f g))
-free_prefixed a b (inl e) (inr (more, f, s)) x y g =
-    absurd (omega
-    (arith, heads 34 114 x (more ++ y) (fronts_swap a b (34 ∷ []) (114 ∷ more) x y e f g)))
-free_prefixed a b (inr (more, e, s)) (inl f) x y g =
-    absurd (omega
-    (arith, heads 114 34 (more ++ x) y (fronts_swap a b (114 ∷ more) (34 ∷ []) x y e f g)))
+free_prefixed a b (inl e) (inl f) x y g = (cc, cc)
+free_prefixed a b (inl e) (inr (more, f, s)) x y g = absurd (grind arith)
+free_prefixed a b (inr (more, e, s)) (inl f) x y g = absurd (grind arith)
 free_prefixed a b (inr s) (inr t) x y g = free_after 114 IsHashes free_hashes a b s t x y g
 
 pub free_prefix_of : (contents : Contents) → IsFree (IsPrefixOf contents)
@@ -86,35 +77,22 @@ free_prefix_of Text = free_after 114 IsHashes free_hashes
 free_prefix_of Bytes = free_after 98 IsPrefixed free_prefixed
 free_prefix_of C = free_after 99 IsPrefixed free_prefixed
 
--- two starts with different first characters
-apart : (j k : ℕ) (S R : List ℕ → Type 0) (a b x y : List ℕ) → (j ≡ k → ⊥) → After j S a →
-    After k R b → a ++ x ≡ b ++ y → ⊥
-apart j k S R a b x y d (more, e, s) (other, f, r) g =
-    d (heads j k (more ++ x) (other ++ y) (fronts_swap a b (j ∷ more) (k ∷ other) x y e f g))
-
 pub free_raw_start : IsFree IsStringPrefix
 free_raw_start a b (inl s) (inl t) x y g = free_after 114 IsHashes free_hashes a b s t x y g
-free_raw_start a b (inl s) (inr (inl t)) x y g =
-    absurd (apart 114 98 _ _ a b x y (λ e. omega arith) s t g)
-free_raw_start a b (inl s) (inr (inr t)) x y g =
-    absurd (apart 114 99 _ _ a b x y (λ e. omega arith) s t g)
-free_raw_start a b (inr (inl s)) (inl t) x y g =
-    absurd (apart 98 114 _ _ a b x y (λ e. omega arith) s t g)
-free_raw_start a b (inr (inl s)) (inr (inl t)) x y g = free_after 98 IsPrefixed free_prefixed a b
-    s t x y g
-free_raw_start a b (inr (inl s)) (inr (inr t)) x y g =
-    absurd (apart 98 99 _ _ a b x y (λ e. omega arith) s t g)
-free_raw_start a b (inr (inr s)) (inl t) x y g =
-    absurd (apart 99 114 _ _ a b x y (λ e. omega arith) s t g)
-free_raw_start a b (inr (inr s)) (inr (inl t)) x y g =
-    absurd (apart 99 98 _ _ a b x y (λ e. omega arith) s t g)
-free_raw_start a b (inr (inr s)) (inr (inr t)) x y g = free_after 99 IsPrefixed free_prefixed a b
-    s t x y g
+free_raw_start a b (inr (inl s)) (inr (inl t)) x y g =
+    free_after 98 IsPrefixed free_prefixed a b s t x y g
+free_raw_start a b (inr (inr s)) (inr (inr t)) x y g =
+    free_after 99 IsPrefixed free_prefixed a b s t x y g
+free_raw_start a b (inl (m, e, s)) (inr (inl (n, f, t))) x y g = absurd (grind arith)
+free_raw_start a b (inl (m, e, s)) (inr (inr (n, f, t))) x y g = absurd (grind arith)
+free_raw_start a b (inr (inl (m, e, s))) (inl (n, f, t)) x y g = absurd (grind arith)
+free_raw_start a b (inr (inl (m, e, s))) (inr (inr (n, f, t))) x y g = absurd (grind arith)
+free_raw_start a b (inr (inr (m, e, s))) (inl (n, f, t)) x y g = absurd (grind arith)
+free_raw_start a b (inr (inr (m, e, s))) (inr (inl (n, f, t))) x y g = absurd (grind arith)
 
-after_head : (k : ℕ) (S : List ℕ → Type 0) (c : ℕ) (rest piece after : List ℕ) → c ∷ rest ≡ piece
-    ++ after → After k S piece → c ≡ k
-after_head k S c rest piece after e (more, f, s) = heads c k rest (more ++ after)
-    (e ∙ ap (λ w. w ++ after) f)
+after_head : (k : ℕ) (S : List ℕ → Type 0) (c : ℕ) (rest piece after : List ℕ) →
+    c ∷ rest ≡ piece ++ after → After k S piece → c ≡ k
+after_head k S c rest piece after e (more, f, s) = cc
 
 pub raw_start_byte : (text rest : List ℕ) (c : ℕ) (answer : Option (Bor (List ℕ))) →
     text ≡ c ∷ rest → c ≡ 98 → ReadsPrefix IsPrefixed rest answer →
@@ -128,7 +106,7 @@ raw_start_byte text rest c None one k misses = λ (piece, after, cut, h). elim h
   ]
 ]
 raw_start_byte text rest c (Some last) one k (piece, cut, s) =
-    (98 ∷ piece, one ∙ ap (λ w. w ∷ rest) k ∙ ap (λ w. 98 ∷ w) cut, inr (inl (piece, refl, s)))
+    (98 ∷ piece, cc, inr (inl (piece, refl, s)))
 
 pub raw_start_c : (text rest : List ℕ) (c : ℕ) (answer : Option (Bor (List ℕ))) →
     text ≡ c ∷ rest → c ≡ 99 → ReadsPrefix IsPrefixed rest answer →
@@ -142,7 +120,7 @@ raw_start_c text rest c None one k misses = λ (piece, after, cut, h). elim h [
   ]
 ]
 raw_start_c text rest c (Some last) one k (piece, cut, s) =
-    (99 ∷ piece, one ∙ ap (λ w. w ∷ rest) k ∙ ap (λ w. 99 ∷ w) cut, inr (inr (piece, refl, s)))
+    (99 ∷ piece, cc, inr (inr (piece, refl, s)))
 
 pub raw_start_other : (text rest : List ℕ) (c : ℕ) (answer : Option (Bor (List ℕ))) →
     text ≡ c ∷ rest → (c ≡ 98 → ⊥) → (c ≡ 99 → ⊥) → ReadsPrefix (After 114 IsHashes) text

@@ -1,12 +1,12 @@
 -- Texts and their characters.
 use Rattle.std.proofs.Common.{◌≡◌, ◌∙◌, ℕ, zero, suc, ◌+◌, ◌-◌, ◌<◌, List, [], ◌∷◌, ◌++◌, length}
-use Rattle.std.proofs.Common.{take, drop, get_or, sym, ap, subst, length-append, arith, rules}
-use Rattle.std.proofs.Common.{tests, ◌≤◌}
+use Rattle.std.proofs.Common.{take, drop, get_or, sym, ap, length-append, arith, rules, tests, ◌≤◌}
+use Rattle.std.proofs.Common.{refl}
 use Rattle.std.specs.Str.{chars, IsUtf8, IsAscii, IsCharBoundary}
 use Rattle.std.specs.Char.{is_ascii_graphic}
 use Rattle.std.specs.Prelude.{Bool, encode_utf8, encode_utf8_all, true, false, nat_lt, nat_le}
-use Rattle.std.proofs.Common.{refl}
-use Rattle.std.proofs.lemmas.Bool.{ltb-true, ltb-false, lt-leb, le-leb, false_from_ne_true}
+use Rattle.std.proofs.lemmas.Bool.{ltb-true, false_from_ne_true}
+use Rattle.std.proofs.lemmas.Bool.Decides.{nat_tests}
 use Rattle.tok_lexical.specs.Private.Fronts.{begins_visibly, begins_beyond_ascii}
 use Rattle.tok_lexical.specs.Widths.{width, is_group_mark}
 use Rattle.tok_lexical.specs.declared.rule.Rule.{Rule}
@@ -20,13 +20,12 @@ use Rattle.std.proofs.lemmas.List.{take_at, append_cancel_right}
 cut_bytes : (text rest front : List ℕ) → IsUtf8 text → IsUtf8 rest → chars text ≡ front
     ++ chars rest → text ≡ encode_utf8_all front ++ rest
 cut_bytes text rest front u v e =
-    sym (encodes-chars text u) ∙ ap encode_utf8_all e ∙ encodes-append front (chars rest)
-    ∙ ap (λ w. encode_utf8_all front ++ w) (encodes-chars rest v)
+    cc (encodes-chars text u, encodes-append front (chars rest), encodes-chars rest v)
 
 pub cut_length : (text rest front : List ℕ) → IsUtf8 text → IsUtf8 rest → chars text ≡ front
     ++ chars rest → length text ≡ length (encode_utf8_all front) + length rest
-cut_length text rest front u v e = ap length (cut_bytes text rest front u v e)
-    ∙ length-append (encode_utf8_all front) rest
+cut_length text rest front u v e =
+    rw (← (cut_bytes text rest front u v e)) at (length-append (encode_utf8_all front) rest)
 
 pub cut_boundary : (text rest front : List ℕ) → IsUtf8 text → IsUtf8 rest → chars text ≡ front
     ++ chars rest → IsCharBoundary text (length text - length rest)
@@ -35,27 +34,25 @@ cut_boundary text rest front u v e =
     (cut_bytes text rest front u v e) v in
     let l : length (encode_utf8_all front) ≡ length text - length rest =
     let k = cut_length text rest front u v e in omega arith in
-    subst (λ n. IsCharBoundary text n) l b
+    rw l at b
 
 pub cut_front : (text rest front taken : List ℕ) → IsUtf8 text → IsUtf8 rest → chars text ≡ front
     ++ chars rest → taken ≡ take (length text - length rest) text → taken ≡ encode_utf8_all front
 cut_front text rest front taken u v e t =
     let l : length (encode_utf8_all front) ≡ length text - length rest =
     let k = cut_length text rest front u v e in omega arith in
-    t ∙ ap (λ w. take (length text - length rest) w) (cut_bytes text rest front u v e)
-    ∙ take_at (encode_utf8_all front) rest _ l
+    let whole = cut_bytes text rest front u v e in
+    cc (take_at (encode_utf8_all front) rest _ l)
 
 pub cut_chars : (text rest front taken : List ℕ) → IsUtf8 text → IsUtf8 rest → chars text ≡ front
     ++ chars rest → taken ≡ take (length text - length rest) text → chars text ≡ chars taken
     ++ chars rest
 cut_chars text rest front taken u v e t =
     let w : IsUtf8 taken =
-    subst IsUtf8 (sym t)
-    (IsUtf8-take text (length text - length rest) u (cut_boundary text rest front u v e))
-    in
-    let whole : text ≡ taken ++ rest = cut_bytes text rest front u v e
-    ∙ ap (λ x. x ++ rest) (sym (cut_front text rest front taken u v e t)) in
-    ap chars whole ∙ chars-append taken rest w
+    rw t (IsUtf8-take text (length text - length rest) u (cut_boundary text rest front u v e)) in
+    let front_is = cut_front text rest front taken u v e t in
+    let whole : text ≡ taken ++ rest = cc (cut_bytes text rest front u v e) in
+    rw whole (chars-append taken rest w)
 
 pub cut_len : (text rest front taken : List ℕ) → IsUtf8 text → IsUtf8 rest → chars text ≡ front
     ++ chars rest → length taken ≡ length text - length rest → length taken + length rest
@@ -83,18 +80,15 @@ pub ascii_first : (text rest : List ℕ) (c : ℕ) → IsUtf8 text → 0 < lengt
     c ≡ get_or text 0 0 → c < 128 → rest ≡ drop 1 text → chars text ≡ c ∷ chars rest
 ascii_first [] rest c u l e m f = absurd (omega arith)
 ascii_first (x ∷ tail) rest c u l e m f =
-    let a : IsAscii (x ∷ []) = ascii_one x (subst (λ w. w < 128) e m) in
-    chars-append (x ∷ []) tail (IsUtf8-from_ascii (x ∷ []) a)
-    ∙ ap (λ w. w ++ chars tail) (chars-IsAscii (x ∷ []) a)
-    ∙ ap (λ w. w ∷ chars tail) (sym e)
-    ∙ ap (λ w. c ∷ chars w) (sym f)
+    let a : IsAscii (x ∷ []) = ascii_one x (rw e at m) in
+    rw (e, f) (rw (chars-IsAscii (x ∷ []) a) at
+    (chars-append (x ∷ []) tail (IsUtf8-from_ascii (x ∷ []) a)))
 
 -- a text whose first byte is another
 pub ascii_misses : (text : List ℕ) (c : ℕ) → IsUtf8 text → c < 128 → (get_or text 0 0 ≡ c → ⊥) →
     (more : List ℕ) → chars text ≡ c ∷ more → ⊥
 ascii_misses text c u l other more e =
-    other (byte_from_char text (encode_utf8_all more) c (sym (encodes-chars text u)
-    ∙ ap encode_utf8_all e) l)
+    other (byte_from_char text (encode_utf8_all more) c (cc (encodes-chars text u)) l)
 
 pub nothing_first : (text : List ℕ) (c : ℕ) → length text ≡ 0 → (more : List ℕ) →
     chars text ≡ c ∷ more → ⊥
@@ -130,7 +124,7 @@ visible_first text x u l e = go (chars text) refl
   where
     go : (cs : List ℕ) → chars text ≡ cs → is_ascii_graphic x ≡ begins_visibly cs
     go [] f = absurd (omega (arith, ap length (sym (encodes-chars text u) ∙ ap encode_utf8_all f)))
-    go (c ∷ cs) f = ap is_ascii_graphic e ∙ first_byte is_ascii_graphic visible_low text cs c u f
+    go (c ∷ cs) f = rw e (first_byte is_ascii_graphic visible_low text cs c u f)
 
 pub nothing_visible : (text : List ℕ) → length text ≡ 0 → begins_visibly (chars text) ≡ false
 nothing_visible [] z = ap begins_visibly chars-nil
@@ -141,11 +135,7 @@ ascii_low x h = ltb-true x 128 h
 
 -- two characters, both ASCII or both beyond
 same_side : (a b : ℕ) → nat_lt a 128 ≡ nat_lt b 128 → nat_le 128 a ≡ nat_le 128 b
-same_side a b e = go (nat_lt a 128) refl
-  where
-    go : (p : Bool) → nat_lt a 128 ≡ p → nat_le 128 a ≡ nat_le 128 b
-    go true f = lt-leb 128 a (ltb-true a 128 f) ∙ sym (lt-leb 128 b (ltb-true b 128 (sym e ∙ f)))
-    go false f = le-leb 128 a (ltb-false a 128 f) ∙ sym (le-leb 128 b (ltb-false b 128 (sym e ∙ f)))
+same_side a b e = grind (arith, nat_tests)
 
 pub beyond_first : (text : List ℕ) (x : ℕ) → IsUtf8 text → 0 < length text →
     x ≡ get_or text 0 0 → nat_le 128 x ≡ begins_beyond_ascii (chars text)
@@ -153,8 +143,8 @@ beyond_first text x u l e = go (chars text) refl
   where
     go : (cs : List ℕ) → chars text ≡ cs → nat_le 128 x ≡ begins_beyond_ascii cs
     go [] f = absurd (omega (arith, ap length (sym (encodes-chars text u) ∙ ap encode_utf8_all f)))
-    go (c ∷ cs) f = ap (nat_le 128) e ∙ same_side (get_or text 0 0) c
-        (first_byte (λ d. nat_lt d 128) ascii_low text cs c u f)
+    go (c ∷ cs) f = rw e (same_side (get_or text 0 0) c
+        (first_byte (λ d. nat_lt d 128) ascii_low text cs c u f))
 
 pub nothing_beyond : (text : List ℕ) → length text ≡ 0 → begins_beyond_ascii (chars text) ≡ false
 nothing_beyond [] z = ap begins_beyond_ascii chars-nil
@@ -170,7 +160,7 @@ module _ (is : ℕ → Bool) (low : (c : ℕ) → is c ≡ true → c < 128) whe
       go : (cs : List ℕ) → chars text ≡ cs → is x ≡ begins cs
       go [] f =
           absurd (omega (arith, ap length (sym (encodes-chars text u) ∙ ap encode_utf8_all f)))
-      go (c ∷ cs) f = ap is e ∙ first_byte is low text cs c u f ∙ sym (first c cs)
+      go (c ∷ cs) f = rw (e, first c cs) (first_byte is low text cs c u f)
 
   pub beyond_fails : (x : ℕ) → (x < 128 → ⊥) → is x ≡ false
   beyond_fails x beyond = false_from_ne_true (is x) (λ h. beyond (low x h))

@@ -1,6 +1,7 @@
 -- White space, of which ASCII characters are found by their bytes.
-use Rattle.std.proofs.Common.{◌≡◌, ◌∙◌, ℕ, ◌<◌, ◌≤◌, List, [], ◌∷◌, ◌++◌, refl, sym, ap, true, false}
-use Rattle.std.proofs.Common.{append_assoc, ◌&&◌, arith, rules, tests}
+use Rattle.tok_lexical.proofs.Longest.{pass_weaker, skips_then}
+use Rattle.std.proofs.Common.{◌≡◌, ℕ, ◌<◌, ◌≤◌, List, [], ◌∷◌, ◌++◌, refl, true, false}
+use Rattle.std.proofs.Common.{append_assoc, arith, rules, tests}
 use Rattle.std.specs.List.{list_all}
 use Rattle.std.proofs.lemmas.Bool.{leb-false, leb-true}
 use Rattle.std.proofs.lemmas.List.Folds.{list_all-append}
@@ -8,7 +9,6 @@ use Rattle.tok_lexical.specs.Private.Fronts.{begins_beyond_ascii, is_ascii_white
 use Rattle.tok_lexical.specs.Characters.{is_whitespace}
 use Rattle.tok_lexical.specs.Pieces.{Skips, Stops}
 use Rattle.tok_lexical.specs.Scans.{IsAsciiTest}
-use Rattle.tok_lexical.proofs.Digits.{head_passes, tail_passes}
 use Rattle.tok_lexical.proofs.Runs.{ascii_test}
 
 -- white space that is ASCII
@@ -23,10 +23,7 @@ blank_whitespace c h = search (rules, tests)
 
 blanks_pass : (cs : List ℕ) → list_all is_ascii_whitespace cs ≡ true → list_all is_whitespace cs
     ≡ true
-blanks_pass [] h = refl
-blanks_pass (c ∷ cs) h =
-    rw (blank_whitespace c (head_passes is_ascii_whitespace c cs h))
-    (blanks_pass cs (tail_passes is_ascii_whitespace c cs h))
+blanks_pass = pass_weaker is_ascii_whitespace is_whitespace blank_whitespace
 
 -- a run of it after other white space
 pub skips_blanks : (text mid rest front : List ℕ) → text ≡ front ++ mid →
@@ -34,9 +31,8 @@ pub skips_blanks : (text mid rest front : List ℕ) → text ≡ front ++ mid �
     (longer : List ℕ) × (text ≡ longer ++ rest) × (list_all is_whitespace longer ≡ true)
 skips_blanks text mid rest front e a (run, s) = (
   front ++ run,
-  e ∙ ap (λ w. front ++ w) s.cut ∙ sym (append_assoc front run rest),
-  list_all-append is_whitespace front run ∙ ap (λ b. b && list_all is_whitespace run) a
-      ∙ blanks_pass run s.pass,
+  cc (s.cut, append_assoc front run rest),
+  rw (list_all-append is_whitespace front run, a) (blanks_pass run s.pass),
 )
 
 stops_blank : (rest : List ℕ) → Stops is_ascii_whitespace rest → begins_beyond_ascii rest ≡ false →
@@ -57,15 +53,7 @@ skips_ascii_blanks text rest (front, s) b = (
 pub skips_more_blanks : (text mid rest : List ℕ) → (front : List ℕ)
     × Skips is_ascii_whitespace text front mid → (more : List ℕ)
     × Skips is_whitespace mid more rest → (skipped : List ℕ) × Skips is_whitespace text skipped rest
-skips_more_blanks text mid rest (front, s) (more, t) = (
-  front ++ more,
-  record {
-    cut = s.cut ∙ ap (λ w. front ++ w) t.cut ∙ sym (append_assoc front more rest);
-    pass = list_all-append is_whitespace front more
-        ∙ ap (λ b. b && list_all is_whitespace more) (blanks_pass front s.pass) ∙ t.pass;
-    stops = t.stops;
-  },
-)
+skips_more_blanks = skips_then is_ascii_whitespace is_whitespace blank_whitespace
 
 -- a character beyond ASCII is none of it
 pub none_beyond : (text : List ℕ) → begins_beyond_ascii text ≡ true → (front : List ℕ)

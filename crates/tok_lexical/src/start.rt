@@ -66,6 +66,7 @@ fn is_mark(c: char) -> bool
 impl Start {
     /// Returns the class of `c`, which is the first character of a text.
     #[inline(always)]
+    #[tactic(auto, using(crate::proofs::Starts::start_by))]
     pub fn of(c: char) -> Start
         ensures { result ≡ start_of c }
     {

@@ -1,9 +1,8 @@
-use Rattle.tok_lexical.specs.Strings.{IsChar}
-use Rattle.tok_lexical.specs.Strings.{IsByte}
+use Rattle.tok_lexical.specs.Strings.{IsChar, IsByte}
 use Rattle.tok_lexical.specs.declared.contents.Contents.TheVariants.{Text, Bytes}
 use Rattle.tok_lexical.proofs.EscapedChars.{free_byte}
-use Rattle.tok_lexical.proofs.QuotedFaults.{char_once, char_tells, fault_once, free_char}
-use Rattle.tok_lexical.proofs.QuotedFaults.{raw_once, raw_tells, string_once, string_tells}
+use Rattle.tok_lexical.proofs.QuotedFaults.{char_once, char_tells, fault_once, free_char, raw_once}
+use Rattle.tok_lexical.proofs.QuotedFaults.{raw_tells, string_once, string_tells}
 use Rattle.tok_lexical.proofs.laws.quoted_faults_tell.Goals as goal
 
 pub returns-clause-strings : goal.returns-clause-strings

@@ -2,8 +2,7 @@ use Rattle.std.proofs.Common.{[], subst, sym}
 use Rattle.std.specs.Str.{chars}
 use Rattle.tok_lexical.specs.Pieces.{ReadsLongest}
 use Rattle.tok_lexical.specs.Strings.{IsString}
-use Rattle.tok_lexical.proofs.Units.{reaches_first, reaches_units, takes_string}
-use Rattle.tok_lexical.proofs.Units.{open_string}
+use Rattle.tok_lexical.proofs.Units.{reaches_first, reaches_units, takes_string, open_string}
 use Rattle.tok_lexical.proofs.strings.past_string_of.Goals as goal
 
 pub loop-after-init : goal.loop-after-init

@@ -1,6 +1,5 @@
 use Rattle.std.proofs.Common.{sym, ◌∙◌}
-use Rattle.tok_lexical.proofs.Identifiers.{skips_ascii_continues}
-use Rattle.tok_lexical.proofs.Identifiers.{skips_more_continues}
+use Rattle.tok_lexical.proofs.Identifiers.{skips_ascii_continues, skips_more_continues}
 use Rattle.tok_lexical.proofs.words.past_continues.Goals as goal
 
 pub returns-then-begins_beyond_ascii : goal.returns-then-begins_beyond_ascii

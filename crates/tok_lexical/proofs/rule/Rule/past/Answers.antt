@@ -1,73 +1,48 @@
 use Rattle.std.proofs.Common.{◌∙◌, ◌==◌, sym, refl, true, eq-eqb}
 use Rattle.tok_lexical.specs.Characters.{is_whitespace, is_punct, opening_mark, closing_mark}
-use Rattle.tok_lexical.proofs.Longest.{takes_one, tries_pair, tries_two}
+use Rattle.tok_lexical.proofs.Longest.{one_read, tries_pair, tries_two}
 use Rattle.tok_lexical.proofs.rule.Rule.past.Goals as goal
 
 pub returns-in-ByteOrderMark-clause-tries : goal.returns-in-ByteOrderMark-clause-tries
 returns-in-ByteOrderMark-clause-tries c =
-    rw c.in-ByteOrderMark.is (
-      _,
-      takes_one (λ d. d == 0xFEFF) _ _ c.in_ok-first.first
-          c.in_ok-first.ensures.chars (eq-eqb _ _ c.if-first-eq65279.true),
-    )
+    rw c.in-ByteOrderMark.is (one_read (λ d. d == 0xFEFF) c.in_ok-first.ensures.chars
+    (eq-eqb _ _ c.if-first-eq65279.true))
 
 pub returns-in-Whitespace-clause-tries : goal.returns-in-Whitespace-clause-tries
 returns-in-Whitespace-clause-tries c =
-    rw c.in-Whitespace.is (
-      _,
-      takes_one is_whitespace _ _ c.in_ok-first.first
-          c.in_ok-first.ensures.chars (sym c.is_whitespace.ensures ∙ c.if-is_whitespace.true),
-    )
+    rw c.in-Whitespace.is (one_read is_whitespace c.in_ok-first.ensures.chars
+    (sym c.is_whitespace.ensures ∙ c.if-is_whitespace.true))
 
 pub returns-in-Opening-clause-tries : goal.returns-in-Opening-clause-tries
 returns-in-Opening-clause-tries c =
-    rw c.in-Opening.is (
-      _,
-      takes_one (λ d. d == opening_mark c.in-Opening.delimiter) _ _
-          c.in_ok-first.first c.in_ok-first.ensures.chars
-          (eq-eqb _ _ (c.if-first-opening_mark.true ∙ c.opening_mark.ensures)),
-    )
+    rw c.in-Opening.is
+    (one_read (λ d. d == opening_mark c.in-Opening.delimiter) c.in_ok-first.ensures.chars
+    (eq-eqb _ _ (c.if-first-opening_mark.true ∙ c.opening_mark.ensures)))
 
 pub returns-in-Closing-clause-tries : goal.returns-in-Closing-clause-tries
 returns-in-Closing-clause-tries c =
-    rw c.in-Closing.is (
-      _,
-      takes_one (λ d. d == closing_mark c.in-Closing.delimiter) _ _
-          c.in_ok-first.first c.in_ok-first.ensures.chars
-          (eq-eqb _ _ (c.if-first-closing_mark.true ∙ c.closing_mark.ensures)),
-    )
+    rw c.in-Closing.is
+    (one_read (λ d. d == closing_mark c.in-Closing.delimiter) c.in_ok-first.ensures.chars
+    (eq-eqb _ _ (c.if-first-closing_mark.true ∙ c.closing_mark.ensures)))
 
 pub returns-in-BadString-clause-tries : goal.returns-in-BadString-clause-tries
 returns-in-BadString-clause-tries c =
-    rw c.in-BadString.is (
-      _,
-      takes_one (λ d. d == 34) _ _ c.in_ok-first.first
-          c.in_ok-first.ensures.chars (eq-eqb _ _ c.if-first-eq34.true),
-    )
+    rw c.in-BadString.is (one_read (λ d. d == 34) c.in_ok-first.ensures.chars
+    (eq-eqb _ _ c.if-first-eq34.true))
 
 pub returns-in-Apostrophe-clause-tries : goal.returns-in-Apostrophe-clause-tries
 returns-in-Apostrophe-clause-tries c =
-    rw c.in-Apostrophe.is (
-      _,
-      takes_one (λ d. d == 39) _ _ c.in_ok-first.first
-          c.in_ok-first.ensures.chars (eq-eqb _ _ c.if-first-eq39.true),
-    )
+    rw c.in-Apostrophe.is (one_read (λ d. d == 39) c.in_ok-first.ensures.chars
+    (eq-eqb _ _ c.if-first-eq39.true))
 
 pub returns-in-Punct-clause-tries : goal.returns-in-Punct-clause-tries
 returns-in-Punct-clause-tries c =
-    rw c.in-Punct.is (
-      _,
-      takes_one is_punct _ _ c.in_ok-first.first c.in_ok-first.ensures.chars
-          (sym c.is_punct.ensures ∙ c.if-is_punct.true),
-    )
+    rw c.in-Punct.is (one_read is_punct c.in_ok-first.ensures.chars
+    (sym c.is_punct.ensures ∙ c.if-is_punct.true))
 
 pub returns-in-Other-clause-tries : goal.returns-in-Other-clause-tries
 returns-in-Other-clause-tries c =
-    rw c.in-Other.is (
-      _,
-      takes_one (λ d. true) _ _ c.in_ok-first.first
-          c.in_ok-first.ensures.chars refl,
-    )
+    rw c.in-Other.is (one_read (λ d. true) c.in_ok-first.ensures.chars refl)
 
 pub returns-in-OpenComment-clause-tries : goal.returns-in-OpenComment-clause-tries
 returns-in-OpenComment-clause-tries c =
