@@ -1,5 +1,6 @@
 -- Clear forests, one tree at a time.
-use Rattle.std.proofs.Common.{◌≡◌, ◌∙◌, sym, ap, refl, ◌-◌, ◌≤◌, Bool, true, false, not, ◌&&◌}
+use Rattle.std.proofs.Common.{◌≡◌, ap, refl, ◌-◌, ◌≤◌, Bool, true, false, not, ◌&&◌}
+use Rattle.std.proofs.Math.Bool.{and-false, and_assoc}
 use Rattle.std.proofs.Common.{List, [], ◌∷◌, length, get_or, arith}
 use Rattle.tok_core.specs.Clear.{clear, tree_clear, ends_joint, is_invisible_group}
 use Rattle.tok_core.specs.Clear.{is_joint_apostrophe, starts_invisible}
@@ -10,10 +11,6 @@ use Rattle.tok_core.specs.Seen.{tree_of, trees_of}
 -- what a loop has left to show, after a tree that is a joint apostrophe or none
 abbrev pub clear_after : Bool → Forest → Bool
 clear_after joint f = not (joint && starts_invisible f) && clear f
-
-and_assoc : (a b c : Bool) → (a && b && c) ≡ (a && (b && c))
-and_assoc true b c = refl
-and_assoc false b c = refl
 
 clear_tree : (t : Tree) (f : Forest) → clear (tree t f)
     ≡ (tree_clear t && clear_after (is_joint_apostrophe t) f)
@@ -27,19 +24,13 @@ clear_edge joint t f e = ap (λ b. not b && clear (tree t f)) e
 pub clear_torn : (joint : Bool) (t : Tree) (f : Forest) → tree_clear t ≡ false →
     clear_after joint (tree t f) ≡ false
 clear_torn joint t f e =
-    ap (λ b. not (joint && is_invisible_group t) && b)
-    (clear_tree t f ∙ ap (λ b. b && clear_after (is_joint_apostrophe t) f) e)
-    ∙ none (not (joint && is_invisible_group t)) where
-      none : (b : Bool) → (b && false) ≡ false
-      none true = refl
-      none false = refl
+    rw (clear_tree t f, e) (and-false _)
 
 pub clear_later : (joint : Bool) (t : Tree) (f : Forest) → (joint && is_invisible_group t)
     ≡ false → tree_clear t ≡ true → clear_after (is_joint_apostrophe t) f
     ≡ clear_after joint (tree t f)
 clear_later joint t f e h =
-    sym (ap (λ b. not b && clear (tree t f)) e ∙ clear_tree t f
-    ∙ ap (λ b. b && clear_after (is_joint_apostrophe t) f) h)
+    rw (e, clear_tree t f, h) refl
 
 -- the last tree decides, whatever stands before the first
 ends_joint_more : (before : Bool) (t u : TokenTree) (ts : List TokenTree) →
@@ -54,5 +45,5 @@ pub ends_joint_last : (ts : List TokenTree) (t : TokenTree) → 1 ≤ length ts 
 ends_joint_last [] t h is = absurd (omega arith)
 ends_joint_last (u ∷ ts) t h is =
     let at : length (u ∷ ts) - 1 ≡ length ts = omega arith in
-    ends_joint_more false u t ts ∙ ap (λ i. is_joint_apostrophe (tree_of (get_or (u ∷ ts) i t)))
-    (sym at) ∙ ap (λ v. is_joint_apostrophe (tree_of v)) (sym is)
+    let last = ends_joint_more false u t ts in
+    cc

@@ -1,26 +1,19 @@
 -- What happens to the levels in one list of trees when a leaf, an opening or a closing comes.
-use Rattle.std.proofs.Common.{◌≡◌, ◌∙◌, sym, ap, refl, ℕ, ◌<◌, ◌≤◌, List, [], ◌∷◌, ◌++◌}
+use Rattle.std.proofs.Common.{◌≡◌, ap, refl, ℕ, ◌<◌, ◌≤◌, List, [], ◌∷◌, ◌++◌}
+use Rattle.std.proofs.lemmas.Bool.{le-leb, leb-true}
 use Rattle.std.proofs.Common.{length, take, drop, arith, true, length-append}
 use Rattle.std.specs.Prelude.{nat_le, reverse}
 use Rattle.std.proofs.lemmas.Bool.{and_parts}
-use Rattle.std.proofs.lemmas.Bool.Decides.{nat_tests}
 use Rattle.std.proofs.lemmas.List.{take-append-le, drop-append-le, length-take-le, reverse-append}
-use Rattle.std.proofs.Math.Seq.{drop-length, take-length}
 use Rattle.tok_core.specs.declared.stream.TokenTree.{TokenTree}
 use Rattle.tok_lexical.specs.declared.delimiter.Delimiter.{Delimiter}
 use Rattle.tok_leaves.specs.Leaves.{Leaf}
 use Rattle.tok_leaves.specs.declared.span.Span.{Span}
-use Rattle.tok_core.specs.Building.{Levels, add_forest, add_leaf, opened, Closes}
-use Rattle.tok_core.specs.Forest.{Forest, concat, group, leaf, no_trees, tree}
+use Rattle.tok_core.specs.Building.{Levels, add_forest, add_leaf, Closes}
+use Rattle.tok_core.specs.Forest.{Forest, group, leaf, no_trees, tree}
 use Rattle.tok_core.specs.Seen.{tree_of, trees_of}
 use Rattle.tok_core.specs.Private.Cuts.{levels_in, is_in_order}
 use Rattle.tok_core.proofs.Trees.{trees_of_push}
-
-below : (a b : ℕ) → nat_le a b ≡ true → a ≤ b
-below a b h = grind (arith, nat_tests)
-
-from_below : (a b : ℕ) → a ≤ b → nat_le a b ≡ true
-from_below a b h = grind (arith, nat_tests)
 
 -- the same order holds within more trees
 pub order_more : (starts : List ℕ) (n m : ℕ) → n ≤ m → is_in_order starts n ≡ true →
@@ -28,8 +21,8 @@ pub order_more : (starts : List ℕ) (n m : ℕ) → n ≤ m → is_in_order sta
 order_more [] n m l h = refl
 order_more (s ∷ starts) n m l h =
     let both = and_parts (nat_le s n) (is_in_order starts s) h in
-    let low = below s n both.0 in
-    rw (from_below s m (omega arith)) both.1
+    let low = leb-true s n both.0 in
+    rw (le-leb s m (omega arith)) both.1
 
 pub add_one : (starts : List ℕ) (trees : List TokenTree) (t : TokenTree) →
     is_in_order starts (length trees) ≡ true → levels_in starts (trees ++ t ∷ [])
@@ -37,16 +30,8 @@ pub add_one : (starts : List ℕ) (trees : List TokenTree) (t : TokenTree) →
 add_one [] trees t h = ap (λ f. record { outer = []; inner = f }) (trees_of_push trees t)
 add_one (s ∷ starts) trees t h =
     let both = and_parts (nat_le s (length trees)) (is_in_order starts s) h in
-    let low = below s (length trees) both.0 in
-    let around = levels_in starts (take s trees) in
-    ap
-    (λ w. record {
-      outer = (levels_in starts w).outer ++ (levels_in starts w).inner ∷ [];
-      inner = trees_of (drop s (trees ++ t ∷ []));
-    }) (take-append-le s trees (t ∷ []) low)
-    ∙ ap
-    (λ f. record { outer = around.outer ++ around.inner ∷ []; inner = f })
-    (ap trees_of (drop-append-le s trees (t ∷ []) low) ∙ trees_of_push (drop s trees) t)
+    let low = leb-true s (length trees) both.0 in
+    rw (take-append-le s trees (t ∷ []) low, drop-append-le s trees (t ∷ []) low, trees_of_push)
 
 pub order_one : (starts : List ℕ) (trees : List TokenTree) (t : TokenTree) →
     is_in_order starts (length trees) ≡ true → is_in_order starts (length (trees ++ t ∷ []))
@@ -64,38 +49,11 @@ pub leaf_one : (starts : List ℕ) (trees new : List TokenTree) (t : TokenTree) 
     levels_in (reverse starts) trees ≡ old → tree_of t ≡ leaf l →
     levels_in (reverse starts) new ≡ add_leaf l old
 leaf_one starts trees new t l old h n v e =
-    ap (levels_in (reverse starts)) n ∙ add_one (reverse starts) trees t h
-    ∙ ap (λ w. add_forest (tree w no_trees) (levels_in (reverse starts) trees)) e
-    ∙ ap (add_leaf l) v
+    rw (n, ← v, ← e) (add_one (reverse starts) trees t h)
 
 last_first : (starts new : List ℕ) (s : ℕ) → new ≡ starts ++ s ∷ [] → reverse new
     ≡ s ∷ reverse starts
-last_first starts new s e = ap reverse e ∙ reverse-append starts (s ∷ [])
-
-pub open_order : (starts new : List ℕ) (trees : List TokenTree) (s : ℕ) → s ≡ length trees →
-    new ≡ starts ++ s ∷ [] → is_in_order (reverse starts) (length trees) ≡ true →
-    is_in_order (reverse new) (length trees) ≡ true
-open_order starts new trees s e n h =
-    rw (last_first starts new s n)
-    (rw (from_below s (length trees) (omega arith))
-    (order_more (reverse starts) (length trees) s (omega arith) h))
-
-pub open_one : (starts new : List ℕ) (trees : List TokenTree) (s : ℕ) → s ≡ length trees →
-    new ≡ starts ++ s ∷ [] → levels_in (reverse new) trees
-    ≡ opened (levels_in (reverse starts) trees)
-open_one starts new trees s e n =
-    ap (λ w. levels_in w trees) (last_first starts new s n ∙ ap (λ w. w ∷ reverse starts) e)
-    ∙ ap
-    (λ w. record {
-      outer = (levels_in (reverse starts) w).outer ++ (levels_in (reverse starts) w).inner ∷ [];
-      inner = trees_of (drop (length trees) trees);
-    }) (take-length trees)
-    ∙ ap
-    (λ w. record {
-      outer = (levels_in (reverse starts) trees).outer
-          ++ (levels_in (reverse starts) trees).inner ∷ [];
-      inner = trees_of w;
-    }) (drop-length trees)
+last_first starts new s e = rw e (reverse-append starts (s ∷ []))
 
 -- some level is open
 pub some_open : (starts : List ℕ) (trees : List TokenTree) →
@@ -120,7 +78,8 @@ pub start_within : (starts left : List ℕ) (trees : List TokenTree) (s : ℕ) �
     s ≤ length trees
 start_within starts left trees s e h =
     let o = rw (last_first left starts s e) at h in
-    below s (length trees) (and_parts (nat_le s (length trees)) (is_in_order (reverse left) s) o).0
+    leb-true s (length trees)
+    (and_parts (nat_le s (length trees)) (is_in_order (reverse left) s) o).0
 
 around_order : (starts left : List ℕ) (trees : List TokenTree) (s : ℕ) →
     starts ≡ left ++ s ∷ [] → is_in_order (reverse starts) (length trees) ≡ true →
@@ -144,14 +103,6 @@ pub close_one : (starts left : List ℕ) (trees kept new : List TokenTree) (s : 
     Closes delimiter span old (levels_in (reverse left) new)
 close_one starts left trees kept new s t delimiter inside span old e h k n v i g =
     let around = levels_in (reverse left) (take s trees) in
-    let was = sym (ap (λ w. levels_in w trees) (last_first left starts s e)) ∙ v in
-    let now = ap (levels_in (reverse left)) (n ∙ ap (λ w. w ++ t ∷ []) k)
-    ∙ add_one (reverse left) (take s trees) t
-    (around_order starts left trees s e h) in
-    let same : inside ≡ old.inner = i ∙ ap (λ w. w.inner) was in (
-      around.inner,
-      sym (ap (λ w. w.outer) was) ∙ ap (λ w. w ++ around.inner ∷ []) (sym (ap (λ w. w.outer) now)),
-      ap (λ w. w.inner) now
-          ∙ ap (λ w. concat around.inner (tree w no_trees))
-          (g ∙ ap (λ w. group delimiter w span) same),
-    )
+    let was = rw (last_first left starts s e) at v in
+    let now = add_one (reverse left) (take s trees) t (around_order starts left trees s e h) in
+    (around.inner, rw (n, k, now, ← was) refl, rw (n, k, now, g, i, ← was) refl)

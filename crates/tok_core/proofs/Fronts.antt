@@ -25,9 +25,8 @@ pub trees_of_take : (old : Forest) (ts : List TokenTree) (i : ℕ) (t : TokenTre
     i < length ts → t ≡ get_or ts i t → concat (concat old (trees_of (take i ts)))
     (tree (tree_of t) no_trees) ≡ concat old (trees_of (take (i + 1) ts))
 trees_of_take old ts i t h is =
-    joined_assoc old (trees_of (take i ts)) (tree (tree_of t) no_trees)
-    ∙ ap (concat old) (sym (trees_of_push (take i ts) t)
-    ∙ ap (λ u. trees_of (take i ts ++ u ∷ [])) is ∙ sym (ap trees_of (take_more ts i t h)))
+    rw (take_more ts i t h, ← is, trees_of_push)
+    (joined_assoc old (trees_of (take i ts)) (tree (tree_of t) no_trees))
 
 -- and stopped there
 pub some_appended : (old new : Forest) (ts : List TokenTree) (i : ℕ) (t : TokenTree) →
@@ -37,8 +36,11 @@ some_appended old new ts i t h is e = (
   trees_of (take i ts),
   tree_of t,
   trees_of (drop (i + 1) ts),
-  ap trees_of (sym (take-append-drop i ts)) ∙ trees_of_append (take i ts) (drop i ts)
-      ∙ ap (concat (trees_of (take i ts))) (trees_of_drop ts i t h is),
+  rw (
+    ← (trees_of_drop ts i t h is),
+    ← (trees_of_append (take i ts) (drop i ts)),
+    take-append-drop,
+  ) refl,
   e,
 )
 
@@ -47,7 +49,7 @@ pub front_first : {T E : Type 0} (r : Result T E) (old f g new : Forest) → App
     → OnErr r (AppendsFront old (concat f g) new)
 front_first (Ok x) old f g new h = tt
 front_first (Err x) old f g new h =
-    (h.0, h.1, concat h.2 g, ap (λ all. concat all g) h.3 ∙ joined_assoc h.0 (tree h.1 h.2) g, h.4)
+    (h.0, h.1, concat h.2 g, rw h.3 (joined_assoc h.0 (tree h.1 h.2) g), h.4)
 
 -- once the first is written, a front of the second is a front of both
 pub front_second : {T E : Type 0} (r : Result T E) (old f between g new : Forest)
@@ -58,14 +60,13 @@ front_second (Err x) old f between g new h written = (
   concat f h.0,
   h.1,
   h.2,
-  ap (concat f) h.3 ∙ sym (joined_assoc f h.0 (tree h.1 h.2)),
-  h.4 ∙ ap (λ all. concat all h.0) written ∙ joined_assoc old f h.0,
+  rw (h.3, joined_assoc) refl,
+  rw (h.4, written) (joined_assoc old f h.0),
 )
 
 -- and all of both, if the second is written too
 pub on_both : {T E : Type 0} (r : Result T E) (old f between g new : Forest)
     → OnOk r (new ≡ concat between g) → between ≡ concat old f
     → OnOk r (new ≡ concat old (concat f g))
-on_both (Ok x) old f between g new h written =
-    h ∙ ap (λ all. concat all g) written ∙ joined_assoc old f g
+on_both (Ok x) old f between g new h written = rw (h, written) (joined_assoc old f g)
 on_both (Err x) old f between g new h written = h

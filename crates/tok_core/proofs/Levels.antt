@@ -1,5 +1,5 @@
 -- Levels, and the forests of which they are made.
-use Rattle.std.proofs.Common.{◌≡◌, List, [], ◌∷◌, ◌++◌, length, refl, ap, arith}
+use Rattle.std.proofs.Common.{◌≡◌, List, [], ◌∷◌, ◌++◌, length, length-append, refl, ap, arith}
 use Rattle.tok_core.specs.Building.{Levels, but_last, last_of, levels_of}
 use Rattle.tok_core.specs.Forest.{Forest}
 
@@ -24,19 +24,10 @@ ends_in_last f (g ∷ s) = ap (λ w. f ∷ w) (ends_in_last g s)
 pub one_end : {A : Type 0} (xs ys : List A) (x y : A) → xs ++ x ∷ [] ≡ ys ++ y ∷ [] → (xs ≡ ys)
     × (x ≡ y)
 one_end [] [] x y e = (refl, cc)
-one_end {A = A} [] (w ∷ ys) x y e = absurd (longer ys y (ap length e))
-  where
-    longer : (ys : List A) (y : A) → 1 ≡ length (w ∷ (ys ++ y ∷ [])) → ⊥
-    longer [] y e = omega (arith, e)
-    longer (v ∷ ys) y e = omega (arith, e)
-one_end {A = A} (w ∷ xs) [] x y e = absurd (longer xs x (ap length e))
-  where
-    longer : (xs : List A) (x : A) → length (w ∷ (xs ++ x ∷ [])) ≡ 1 → ⊥
-    longer [] x e = omega (arith, e)
-    longer (v ∷ xs) x e = omega (arith, e)
+one_end [] (w ∷ ys) x y e = absurd (omega (arith, ap length e, length-append ys (y ∷ [])))
+one_end (w ∷ xs) [] x y e = absurd (omega (arith, ap length e, length-append xs (x ∷ [])))
 one_end (w ∷ xs) (v ∷ ys) x y e =
-    let h : (w ≡ v) × (xs ++ x ∷ [] ≡ ys ++ y ∷ []) = (cc, cc) in
-    let r = one_end xs ys x y h.1 in (λ i. h.0 i ∷ r.0 i, r.1)
+    let r = one_end xs ys x y (cc) in (cc, r.1)
 
 pub same_levels : (s : Levels) (outer : List Forest) (inner : Forest) → s.outer ≡ outer →
     s.inner ≡ inner → s ≡ record { outer = outer; inner = inner }

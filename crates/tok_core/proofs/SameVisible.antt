@@ -1,5 +1,5 @@
 -- Erasures compared tree by tree.
-use Rattle.std.proofs.Common.{◌≡◌, ◌∙◌, sym, ap, refl, Bool, Result, Ok, Err}
+use Rattle.std.proofs.Common.{◌≡◌, refl, Bool, Result, Ok, Err}
 use Rattle.std.specs.declared.alloc.AllocError.{AllocError}
 use Rattle.std.specs.Prelude.{IfOk}
 use Rattle.tok_lexical.specs.declared.delimiter.Delimiter.{Delimiter}
@@ -23,22 +23,15 @@ erased_group Brace f s v = refl
 erased_group Bracket f s v = refl
 erased_group None f s v = absurd v
 
-content_same : (d e : Delimiter) (f g : Forest) (s r : Span) → tree (group d f s) no_trees
-    ≡ tree (group e g r) no_trees → f ≡ g
-content_same d e f g s r h = cc
-
 module _ (d e : Delimiter) (f g : Forest) (s r : Span) (seen_d : IsVisible (group d f s))
     (seen_e : IsVisible (group e g r)) where
   pub group_content : erase (tree (group d f s) no_trees) ≡ erase (tree (group e g r) no_trees) →
       erase f ≡ erase g
-  group_content h = content_same d e (erase f) (erase g) s r (sym (erased_group d f s seen_d) ∙ h
-      ∙ erased_group e g r seen_e)
+  group_content h = cc (erased_group d f s seen_d, erased_group e g r seen_e)
 
   pub group_same : d ≡ e → s ≡ r → erase f ≡ erase g → erase (tree (group d f s) no_trees)
       ≡ erase (tree (group e g r) no_trees)
-  group_same a b h = erased_group d f s seen_d ∙ ap (λ x. tree (group x (erase f) s) no_trees) a
-      ∙ ap (λ x. tree (group e x s) no_trees) h ∙ ap (λ x. tree (group e (erase g) x) no_trees) b
-      ∙ sym (erased_group e g r seen_e)
+  group_same a b h = cc (erased_group d f s seen_d, erased_group e g r seen_e)
 
 pub if_ok_follows : {P Q : Bool → Type 0} (r : Result Bool AllocError) → ((b : Bool) → P b → Q b) →
     IfOk r P → IfOk r Q

@@ -1,7 +1,7 @@
 -- How a model holds a forest: as a list of its items, which is read from the last to the first.
 use Rattle.std.specs.Prelude.{◌≡◌, ℕ, Bool, true, false, List, [], ◌∷◌, ◌++◌, ◌⊎◌, Option, Some}
 use Rattle.std.specs.Prelude.{None, refl}
-use Rattle.std.proofs.Common.{zero, suc, inl, inr, ap, ◌∙◌}
+use Rattle.std.proofs.Common.{zero, suc, inl, inr, ap, arith}
 use Rattle.std.specs.Coded.{Coded, code_by, coded×, coded_ℕ, coded_bool, coded_list, coded_option}
 use Rattle.std.specs.Coded.{coded⊎}
 use base.Stored.{coded_unit}
@@ -39,8 +39,7 @@ place_of (Some c) = Source c.0 c.1.0 c.1.1
 
 -- decoding an origin undoes its encoding
 pub origin_back : (p : Origin) → place_of (origin_code p) ≡ p
-origin_back CallSite = refl
-origin_back (Source n a b) = refl
+origin_back p = grind arith
 
 -- the code of a span
 abbrev pub span_code : Span → SpanCode
@@ -66,8 +65,7 @@ spacing_of true = Joint
 
 -- decoding a spacing undoes its encoding
 pub spacing_back : (s : Spacing) → spacing_of (spacing_code s) ≡ s
-spacing_back Alone = refl
-spacing_back Joint = refl
+spacing_back s = grind arith
 
 -- the code of a delimiter
 abbrev pub delimiter_code : Delimiter → ℕ
@@ -85,10 +83,7 @@ delimiter_of (suc (suc (suc n))) = delimiter.None
 
 -- decoding a delimiter undoes its encoding
 pub delimiter_back : (d : Delimiter) → delimiter_of (delimiter_code d) ≡ d
-delimiter_back delimiter.Parenthesis = refl
-delimiter_back delimiter.Brace = refl
-delimiter_back delimiter.Bracket = refl
-delimiter_back delimiter.None = refl
+delimiter_back d = grind arith
 
 -- the code of a leaf
 abbrev pub leaf_code : Leaf → LeafCode
@@ -104,11 +99,9 @@ leaf_of (inr (inr c)) = literal c.0 (span_of c.1)
 
 -- decoding a leaf undoes its encoding
 pub leaf_back : (l : Leaf) → leaf_of (leaf_code l) ≡ l
-leaf_back (ident text span) = ap (ident text) (span_back span)
-leaf_back (punct c spacing span) =
-    ap (λ s. punct c s (span_of (span_code span))) (spacing_back spacing)
-    ∙ ap (punct c spacing) (span_back span)
-leaf_back (literal text span) = ap (literal text) (span_back span)
+leaf_back (ident text span) = cc (span_back span)
+leaf_back (punct c spacing span) = cc (spacing_back spacing, span_back span)
+leaf_back (literal text span) = cc (span_back span)
 
 -- the items of a forest: a group is before its contents, and an end after the last tree of a level
 abbrev pub encode : Forest → List ItemCode
@@ -149,20 +142,19 @@ stack_items_append (x ∷ xs) ys s = ap (stack_item x) (stack_items_append xs ys
 -- the items of a forest put it on the stack
 pub stack_items_encode : (f : Forest) (s : List Forest) → stack_items (encode f) s ≡ f ∷ s
 stack_items_encode no_trees s = refl
-stack_items_encode (tree (leaf l) f) s =
-    ap (stack_item (inr (inl (leaf_code l)))) (stack_items_encode f s)
-    ∙ ap (λ k. tree (leaf k) f ∷ s) (leaf_back l)
+stack_items_encode (tree (leaf l) f) s = rw (stack_items_encode f s, leaf_back l) refl
 stack_items_encode (tree (group d c p) f) s =
-    ap (stack_item (inr (inr (delimiter_code d, span_code p))))
-    (stack_items_append (encode c) (encode f) s
-    ∙ ap (stack_items (encode c)) (stack_items_encode f s)
-    ∙ stack_items_encode c (f ∷ s))
-    ∙ ap (λ e. tree (group e c (span_of (span_code p))) f ∷ s) (delimiter_back d)
-    ∙ ap (λ q. tree (group d c q) f ∷ s) (span_back p)
+    rw (
+      stack_items_append (encode c) (encode f) s,
+      stack_items_encode f s,
+      stack_items_encode c (f ∷ s),
+      delimiter_back d,
+      span_back p,
+    ) refl
 
 -- the items of a forest stand for this forest
 pub decode_encode : (f : Forest) → decode (encode f) ≡ f
-decode_encode f = ap top (stack_items_encode f [])
+decode_encode f = rw (stack_items_encode f []) refl
 
 -- codes of spans, as a model holds them
 abbrev pub coded_span : Coded SpanCode

@@ -1,6 +1,6 @@
 -- White space and comments mean nothing, unless they are doc comments.
-use Rattle.std.proofs.Common.{◌≡◌, ◌∙◌, ◌+◌, ◌-◌, ◌<◌, ◌≤◌, refl, sym, ℕ, List, [], ◌∷◌, ◌++◌}
-use Rattle.std.proofs.Common.{ap, subst, length, length-append, arith}
+use Rattle.std.proofs.Common.{◌≡◌, ◌∙◌, ◌+◌, ◌-◌, ◌<◌, ◌≤◌, refl, sym, inl, inr, ℕ, List, [], ◌∷◌, ◌++◌}
+use Rattle.std.proofs.Common.{ap, length, length-append, append_assoc, arith}
 use Rattle.std.proofs.lemmas.List.{append-nil}
 use Rattle.std.proofs.lemmas.Str.{length-le-encodes}
 use Rattle.std.specs.Borrow.{Bor}
@@ -12,13 +12,14 @@ use Rattle.tok_lexical.specs.Pieces.{HasPrefix, Skips, ReadsLongest}
 use Rattle.tok_lexical.specs.Fits.{IsFirstFit, here, later}
 use Rattle.tok_core.specs.Lexical.Reading.{Cut, stop, piece}
 use Rattle.tok_lexical.specs.declared.rule.Mode.{Mode}
-use Rattle.tok_lexical.specs.declared.rule.Mode.TheVariants.{Plain, Marked, Source}
+use Rattle.tok_lexical.specs.declared.rule.Mode.TheVariants.{Plain}
 use Rattle.tok_lexical.proofs.Slashes.{decides_line, decides_block}
 use Rattle.tok_lexical.proofs.Fits.{fits_longest}
 use Rattle.tok_lexical.proofs.Longest.{takes_one}
 use Rattle.tok_lexical.proofs.Texts.{cut_length}
-use Rattle.std.proofs.lemmas.Bool.{false≢true, eqb-true}
-use Rattle.std.specs.Prelude.{Bool, true, false, not, ◌==◌, ◌||◌, ◌&&◌, Option, Some, None}
+use Rattle.std.proofs.lemmas.Bool.{cases_eq, ne_eqb, and_parts}
+use Rattle.std.proofs.Math.Bool.{and-true}
+use Rattle.std.specs.Prelude.{true, false, not, ◌==◌, ◌||◌, Option, Some, None}
 use Rattle.std.specs.Prelude.{IfSome, encode_utf8, encode_utf8_all}
 use Rattle.std.specs.List.{list_all}
 use Rattle.tok_core.specs.Private.Built.{IsBlank}
@@ -28,28 +29,22 @@ use Rattle.tok_lexical.specs.Errors.{error_kind}
 use Rattle.tok_core.specs.Lexical.Meaning.{items}
 use Rattle.tok_lexical.specs.Widths.{width}
 use Rattle.tok_lexical.specs.Pieces.{IsLongestPrefix}
-use Rattle.tok_lexical.specs.Rules.{Spells, all_rules, among, rules_of}
+use Rattle.tok_lexical.specs.Rules.{Spells, all_rules, rules_of}
 use Rattle.tok_lexical.specs.declared.rule.Rule.{Rule}
 use Rattle.tok_lexical.specs.declared.rule.Rule.TheVariants.{ByteOrderMark, Whitespace}
 use Rattle.tok_lexical.specs.declared.rule.Rule.TheVariants.{LineComment, BlockComment}
 use Rattle.tok_lexical.proofs.Longest.{list_all_push}
 
-and_true : (b : Bool) → b && true ≡ b
-and_true true = refl
-and_true false = refl
-
 -- what follows a line comment begins with a line feed
 ends_line : (text body after : List ℕ) (c : ℕ) → IsLongestPrefix (Spells LineComment) text
     (47 ∷ 47 ∷ body) (c ∷ after) → list_all is_not_line_feed body ≡ true → c ≡ 10
-ends_line text body after c t a = go (c == 10) refl
-  where
-    go : (b : Bool) → (c == 10) ≡ b → c ≡ 10
-    go true e = eqb-true c 10 e
-    go false e =
-        let longer : list_all is_not_line_feed (body ++ c ∷ []) ≡ true =
-        list_all_push is_not_line_feed body c a (ap not e) in
-        let none : c ∷ [] ≡ [] = t.longest (c ∷ []) after refl (body ++ c ∷ [], refl, longer) in
-        absurd (cc)
+ends_line text body after c t a = elim (cases_eq c 10) [
+  | inl e ↦ e
+  | inr n ↦
+      let longer = list_all_push is_not_line_feed body c a (ap not (ne_eqb c 10 n)) in
+      let none : c ∷ [] ≡ [] = t.longest (c ∷ []) after refl (body ++ c ∷ [], refl, longer) in
+      absurd (cc)
+]
 
 line_doc : (body after : List ℕ) → ((c : ℕ) (rest : List ℕ) → after ≡ c ∷ rest → c ≡ 10) →
     is_line_doc (47 ∷ 47 ∷ (body ++ after)) ≡ is_line_doc (47 ∷ 47 ∷ body)
@@ -58,7 +53,7 @@ line_doc [] (x ∷ []) feed = rw (feed x [] refl) refl
 line_doc [] (x ∷ y ∷ rest) feed = rw (feed x (y ∷ rest) refl) refl
 line_doc (c ∷ []) [] feed = refl
 line_doc (c ∷ []) (x ∷ rest) feed =
-    rw (feed x rest refl) (ap (λ b. (c == 33) || b) (and_true (c == 47)))
+    rw (feed x rest refl) (ap (λ b. (c == 33) || b) (and-true (c == 47)))
 line_doc (c ∷ d ∷ body) after feed = refl
 
 block_doc : (body after : List ℕ) → Closes 1 body → is_block_doc (47 ∷ 42 ∷ (body ++ after))
@@ -69,26 +64,15 @@ block_doc (c ∷ d ∷ body) after k = refl
 
 line_piece : (text taken after : List ℕ) → IsLongestPrefix (Spells LineComment) text taken
     after → is_line_doc text ≡ is_line_doc taken
-line_piece text taken after t = go taken t.spelled t
-  where
-    go : (p : List ℕ) → Spells LineComment p → IsLongestPrefix (Spells LineComment) text p
-        after → is_line_doc text ≡ is_line_doc p
-    go p (body, e, a) u =
-        let v : IsLongestPrefix (Spells LineComment) text (47 ∷ 47 ∷ body) after =
-        subst (λ w. IsLongestPrefix (Spells LineComment) text w after) e u in
-        ap is_line_doc v.cut
-        ∙ line_doc body after
-        (λ c rest f. ends_line text body rest c
-        (subst (λ w. IsLongestPrefix (Spells LineComment) text (47 ∷ 47 ∷ body) w) f v) a)
-        ∙ ap is_line_doc (sym e)
+line_piece text taken after t =
+    let (body, e, a) = t.spelled in
+    let v : IsLongestPrefix (Spells LineComment) text (47 ∷ 47 ∷ body) after = rw e at t in
+    rw (v.cut, e) (line_doc body after (λ c rest f. ends_line text body rest c (rw f at v) a))
 
 block_piece : (text taken after : List ℕ) → IsLongestPrefix (Spells BlockComment) text taken
     after → is_block_doc text ≡ is_block_doc taken
-block_piece text taken after t = go t.spelled
-  where
-    go : Spells BlockComment taken → is_block_doc text ≡ is_block_doc taken
-    go (body, e, k) = ap is_block_doc (t.cut ∙ ap (λ w. w ++ after) e) ∙ block_doc body after k
-        ∙ ap is_block_doc (sym e)
+block_piece text taken after t =
+    let (body, e, k) = t.spelled in rw (t.cut, e) (block_doc body after k)
 
 -- such a taken is not refused, adds nothing, and is as wide as its bytes
 record MeansNothing (rule : Rule) (mode : Mode) (number at : ℕ) (taken after : List ℕ) : Type 0
@@ -102,34 +86,19 @@ line_nothing : (mode : Mode) (number at : ℕ) (text taken after : List ℕ) →
     MeansNothing LineComment mode number at taken after
 line_nothing mode number at text taken after calm t =
     let none : is_line_doc taken ≡ false = sym (line_piece text taken after t) ∙ calm in
-    record { passes = passes mode none; adds_none = rw none refl; wide = refl }
-  where
-    passes : (mode : Mode) → is_line_doc taken ≡ false → error_kind LineComment mode at taken after
-        ≡ None
-    passes Plain none = rw none refl
-    passes Marked none = rw none refl
-    passes (Source edition) none = rw none refl
+    record { passes = grind arith; adds_none = rw none refl; wide = refl }
 
 block_nothing : (mode : Mode) (number at : ℕ) (text taken after : List ℕ) → is_block_doc text
     ≡ false → IsLongestPrefix (Spells BlockComment) text taken after →
     MeansNothing BlockComment mode number at taken after
 block_nothing mode number at text taken after calm t =
     let none : is_block_doc taken ≡ false = sym (block_piece text taken after t) ∙ calm in
-    record { passes = passes mode none; adds_none = rw none refl; wide = refl }
-  where
-    passes : (mode : Mode) → is_block_doc taken ≡ false → error_kind BlockComment mode at taken
-        after ≡ None
-    passes Plain none = rw none refl
-    passes Marked none = rw none refl
-    passes (Source edition) none = rw none refl
+    record { passes = grind arith; adds_none = rw none refl; wide = refl }
 
 pub recut : {mode : Mode} {number at end to : ℕ} {text rest after : List ℕ}
     {some others : List Item} → some ≡ others → end ≡ to → rest ≡ after →
     Cut mode number at text some end rest → Cut mode number at text others to after
-recut {mode} {number} {at} {end} {to} {text} {rest} {after} {some} {others} i e r c =
-    subst (λ w. Cut mode number at text others to w) r
-    (subst (λ w. Cut mode number at text others w rest) e
-    (subst (λ w. Cut mode number at text w end rest) i c))
+recut i e r c = rw (← i, ← e, ← r) c
 
 pub shorter : (of : List Rule) (rule : Rule) (text rest taken : List ℕ) → IsUtf8 text →
     IsUtf8 rest → IsFirstFit (chars text) of rule taken (chars rest) →
@@ -159,22 +128,14 @@ blank_front text rest rule u v nothings d mode number at =
 
 pub blank_none : (text rest : List ℕ) → rest ≡ text → IsBlank (chars text) (chars rest)
     (length text - length rest)
-blank_none text rest e mode number at =
-    let l : length rest ≡ length text = ap length e in
-    recut refl (omega arith) (ap chars (sym e)) stop
+blank_none text rest e mode number at = rw e (recut refl (omega arith) refl stop)
 
-cut_on : {mode : Mode} {number at end to : ℕ} {text rest after : List ℕ}
-    {some : List Item} → Cut mode number at text some end rest → some ≡ [] →
-    Cut mode number end rest [] to after → Cut mode number at text [] to after
-cut_on stop none d = d
-cut_on {mode} {number} {at} {end} {to} {text} {rest} {after}
-    (piece {taken = taken} {after = next} {rule = rule} {more = more} e n c) none d =
-    let apart = append_nothing (items number rule mode at taken next) more none in
-    recut (ap (λ w. w ++ []) apart.0) refl refl (piece e n (cut_on c apart.1 d))
-  where
-    append_nothing : (xs ys : List Item) → xs ++ ys ≡ [] → (xs ≡ []) × (ys ≡ [])
-    append_nothing [] ys e = (refl, e)
-    append_nothing (x ∷ xs) ys e = absurd (cc)
+-- one cut goes on from another
+pub cut_then : {mode : Mode} {number at end to : ℕ} {text rest after : List ℕ}
+    {some others : List Item} → Cut mode number at text some end rest →
+    Cut mode number end rest others to after → Cut mode number at text (some ++ others) to after
+cut_then stop d = d
+cut_then (piece {more = more} e n c) d = rw (append_assoc _ more _) (piece e n (cut_then c d))
 
 pub blank_more : (text mid rest : List ℕ) → length rest ≤ length mid → length mid ≤ length text →
     IsBlank (chars text) (chars mid) (length text - length mid) →
@@ -182,7 +143,7 @@ pub blank_more : (text mid rest : List ℕ) → length rest ≤ length mid → l
     IsBlank (chars text) (chars rest) (length text - length rest)
 blank_more text mid rest l m first second mode number at =
     recut refl (omega arith) refl
-    (cut_on (first mode number at) refl
+    (cut_then (first mode number at)
     (second mode number (at + (length text - length mid))))
 
 first_rules : (more : List Rule) × (all_rules ≡ ByteOrderMark ∷ Whitespace ∷ more)
@@ -192,29 +153,17 @@ first_rules = (_, refl)
 decides_space : (mode : Mode) (c : ℕ) (more : List ℕ) → is_whitespace c ≡ true →
     IsFirstFit (c ∷ more) (rules_of mode) Whitespace (c ∷ []) more
 decides_space mode c more h =
-    subst (λ w. IsFirstFit (c ∷ more) (among mode w) Whitespace (c ∷ []) more) (sym first_rules.1)
-    (later no_mark (here (takes_one is_whitespace (c ∷ more) more c refl h)))
+    rw first_rules.1 (later no_mark (here (takes_one is_whitespace (c ∷ more) more c refl h)))
   where
     no_mark : HasPrefix (Spells ByteOrderMark) (c ∷ more) → ⊥
-    no_mark (front, after, cut, (d, pass, e)) =
-        let head : c ∷ more ≡ d ∷ after = cut ∙ ap (λ w. w ++ after) e in
-        let same : c ≡ d = cc in
-        false≢true (sym (ap is_whitespace (same ∙ eqb-true d 0xFEFF pass)) ∙ h)
-
-all_first : (p : ℕ → Bool) (c : ℕ) (cs : List ℕ) → list_all p (c ∷ cs) ≡ true → (p c ≡ true)
-    × (list_all p cs ≡ true)
-all_first p c cs h = go (p c) refl h
-  where
-    go : (b : Bool) → p c ≡ b → b && list_all p cs ≡ true → (p c ≡ true) × (list_all p cs ≡ true)
-    go true e k = (e, k)
-    go false e k = absurd (false≢true k)
+    no_mark (front, after, cut, (d, pass, e)) = let same : c ≡ d = cc in grind arith
 
 cut_spaces : (mode : Mode) (number at : ℕ) (front after : List ℕ) →
     list_all is_whitespace front ≡ true → Cut mode number at (front ++ after) []
     (at + length (encode_utf8_all front)) after
 cut_spaces mode number at [] after h = recut refl (omega arith) refl stop
 cut_spaces mode number at (x ∷ front) after h =
-    let space = all_first is_whitespace x front h in
+    let space = and_parts (is_whitespace x) (list_all is_whitespace front) h in
     let wide : length (encode_utf8_all (x ∷ [])) ≡ length (encode_utf8 x) =
     ap length (append-nil (encode_utf8 x)) in
     let both = length-append (encode_utf8 x) (encode_utf8_all front) in
@@ -226,10 +175,8 @@ pub blank_spaces : (text rest : List ℕ) → IsUtf8 text → IsUtf8 rest → (f
     (length text - length rest)
 blank_spaces text rest u v (front, skips) mode number at =
     let l = cut_length text rest front u v skips.cut in
-    subst (λ w. Cut mode number at w [] (at + (length text - length rest))
-    (chars rest)) (sym skips.cut)
-    (recut refl (omega arith) refl
-    (cut_spaces mode number at front (chars rest) skips.pass))
+    rw skips.cut
+    (recut refl (omega arith) refl (cut_spaces mode number at front (chars rest) skips.pass))
 
 pub line_front : (mode : Mode) (text after body rest : List ℕ) →
     chars text ≡ 47 ∷ chars after → chars after ≡ 47 ∷ chars body → (front : List ℕ)
@@ -237,7 +184,7 @@ pub line_front : (mode : Mode) (text after body rest : List ℕ) →
     × IsFirstFit (chars text) (rules_of mode) LineComment taken (chars rest)
 line_front mode text after body rest e f skips =
     let d = decides_line mode (chars after) (chars body) (chars rest) f skips in
-    (d.0, subst (λ w. IsFirstFit w (rules_of mode) LineComment d.0 (chars rest)) (sym e) d.1)
+    (d.0, rw e d.1)
 
 pub blank_line : (text after body rest : List ℕ) → IsUtf8 text → IsUtf8 rest →
     chars text ≡ 47 ∷ chars after → chars after ≡ 47 ∷ chars body → opens_line_doc (chars body)
@@ -246,7 +193,7 @@ pub blank_line : (text after body rest : List ℕ) → IsUtf8 text → IsUtf8 re
 blank_line text after body rest u v e f calm skips =
     blank_front text rest LineComment u v
     (λ mode number at taken rest. line_nothing mode number at (chars text) taken rest
-    (ap is_line_doc (e ∙ ap (λ w. 47 ∷ w) f) ∙ calm))
+    (rw (e, f) calm))
     (λ mode. line_front mode text after body rest e f skips)
 
 block_front : (mode : Mode) (text after body rest : List ℕ) → chars text ≡ 47 ∷ chars after →
@@ -254,11 +201,7 @@ block_front : (mode : Mode) (text after body rest : List ℕ) → chars text ≡
     front (chars rest) → (taken : List ℕ) × IsFirstFit (chars text) (rules_of mode)
     BlockComment taken (chars rest)
 block_front mode text after body rest e f closed =
-    let d = decides_block mode (chars after) (chars body) (chars rest) f closed in (
-      d.0,
-      subst (λ w. IsFirstFit w (rules_of mode) BlockComment d.0 (chars rest)) (sym e)
-          d.1,
-    )
+    let d = decides_block mode (chars after) (chars body) (chars rest) f closed in (d.0, rw e d.1)
 
 -- a block comment, where one ends
 module _ (text after body : List ℕ) (u : IsUtf8 text) (e : chars text ≡ 47 ∷ chars after)
@@ -271,7 +214,7 @@ module _ (text after body : List ℕ) (u : IsUtf8 text) (e : chars text ≡ 47 �
   blank_block (Some rest) t v calm =
       blank_front text rest.now BlockComment u v
       (λ mode number at taken rest. block_nothing mode number at (chars text) taken rest
-      (ap is_block_doc (e ∙ ap (λ w. 47 ∷ w) f) ∙ calm))
+      (rw (e, f) calm))
       (λ mode. block_front mode text after body rest.now e f t)
 
   pub shorter_block : (answer : Option (Bor (List ℕ))) → ReadsLongest (Closes 1) (chars body)

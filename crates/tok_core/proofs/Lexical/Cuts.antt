@@ -1,15 +1,15 @@
 -- The cut of a front of the text, one piece further.
 use Rattle.std.proofs.Common.{◌≡◌, ◌∙◌, ℕ, ◌+◌, ◌≤◌, List, [], ◌∷◌, ◌++◌, length, refl, sym, ap}
-use Rattle.std.proofs.Common.{subst, arith, append_assoc}
-use Rattle.std.specs.Prelude.{Bool, encode_utf8_all, ◌-◌, ◌==◌, ◌||◌, true, false, None}
+use Rattle.std.proofs.Common.{arith}
+use Rattle.std.specs.Prelude.{encode_utf8_all, ◌-◌, ◌==◌, ◌||◌, true, false, None}
 use Rattle.std.specs.Str.{chars, IsUtf8}
-use Rattle.std.proofs.lemmas.List.{append-nil}
+use Rattle.std.proofs.lemmas.List.{append-nil, nil_from_length}
 use Rattle.std.proofs.lemmas.List.Folds.{list_any-append}
 use Rattle.std.proofs.Math.Bool.{or-true}
-use Rattle.std.proofs.lemmas.Bool.{false≢true, ne_eqb}
+use Rattle.std.proofs.lemmas.Bool.{false≢true}
 use Rattle.std.proofs.lemmas.Str.{chars-nil, encodes-chars}
 use Rattle.tok_lexical.specs.Contents.{has_return}
-use Rattle.tok_core.specs.Forest.{Forest}
+use Rattle.tok_core.specs.Forest.{Forest, no_trees}
 use Rattle.tok_lexical.specs.Fits.{NoneBefore}
 use Rattle.tok_core.specs.Building.{nothing}
 use Rattle.tok_core.specs.Private.Built.{EndsInOther, IsBlank, State, IsPaired, Holds, HoldsAll}
@@ -20,12 +20,11 @@ use Rattle.tok_core.specs.Private.Taken.{HaltsAt, Taken}
 use Rattle.tok_core.specs.Lexical.Items.{Item, no_items}
 use Rattle.tok_lexical.specs.Errors.{error_kind}
 use Rattle.tok_core.specs.Lexical.Meaning.{items}
-use Rattle.tok_lexical.specs.Widths.{width, is_group_mark}
-use Rattle.tok_lexical.specs.Pieces.{HasPrefix}
+use Rattle.tok_lexical.specs.Widths.{width}
 use Rattle.tok_lexical.specs.Fits.{IsFirstFit}
 use Rattle.tok_core.specs.Lexical.Reading.{Cut, stop, piece, ReadsFrom, RejectsAt, unclosed}
 use Rattle.tok_core.specs.Lexical.Reading.{IsRefusedFrom}
-use Rattle.tok_lexical.specs.Rules.{Spells, all_rules, rules_of}
+use Rattle.tok_lexical.specs.Rules.{all_rules, rules_of}
 use Rattle.tok_core.specs.declared.lexer.error.LexError.{LexError}
 use Rattle.tok_core.specs.declared.lexer.error.LexFault.{LexFault}
 use Rattle.tok_core.specs.declared.lexer.error.Halt.{Halt}
@@ -38,7 +37,7 @@ use Rattle.tok_lexical.specs.declared.edition.Edition.TheVariants.{Edition2015, 
 use Rattle.tok_lexical.specs.declared.edition.Edition.TheVariants.{Edition2021, Edition2024}
 use Rattle.tok_lexical.specs.declared.rule.Rule.{Rule}
 use Rattle.tok_lexical.specs.declared.rule.Rule.TheVariants.{Whitespace}
-use Rattle.tok_core.proofs.Lexical.Blanks.{recut}
+use Rattle.tok_core.proofs.Lexical.Blanks.{cut_then, recut}
 use Rattle.tok_core.proofs.Lexical.Nests.{opens_of, paired_of, reached_later}
 use Rattle.tok_lexical.proofs.Fits.{fits_longest}
 use Rattle.tok_core.proofs.Lexical.Steps.{refuses}
@@ -50,36 +49,19 @@ cut_more : {mode : Mode} {number at end : ℕ} {text rest taken after : List ℕ
     Cut mode number at text (some ++ items number rule mode end taken after)
     (end + width rule taken)
     after
-cut_more {mode = mode} {number = number} {end = end} {taken = taken} {after = after} {rule = rule}
-    stop d m =
-    recut (append-nil (items number rule mode end taken after)) refl refl (piece d m stop)
-cut_more (piece {more = others} e n c) d m = recut (sym (append_assoc _ others _)) refl refl
-    (piece e n (cut_more c d m))
-
-cut_then : {mode : Mode} {number at end to : ℕ} {text rest after : List ℕ}
-    {some others : List Item} → Cut mode number at text some end rest →
-    Cut mode number end rest others to after → Cut mode number at text (some ++ others) to
-    after
-cut_then stop d = d
-cut_then (piece {more = more} e n c) d = recut (sym (append_assoc _ more _)) refl refl
-    (piece e n (cut_then c d))
+cut_more c d m = rw append-nil at (cut_then c (piece d m stop))
 
 -- a U+000D of the piece, or of what follows, is one of the text
-has_piece_return : (text taken after : List ℕ) → text ≡ taken ++ after → has_return taken
-    ≡ true → has_return text ≡ true
-has_piece_return text taken after e h = ap has_return e ∙ list_any-append (λ c. c == 13) taken
-    after ∙ ap (λ b. b || has_return after) h
-
-has_later_return : (text taken after : List ℕ) → text ≡ taken ++ after → has_return after
-    ≡ true → has_return text ≡ true
-has_later_return text taken after e h = ap has_return e ∙ list_any-append (λ c. c == 13) taken
-    after ∙ ap (λ b. has_return taken || b) h ∙ or-true (has_return taken)
+has_piece_return : (text taken after : List ℕ) → text ≡ taken ++ after →
+    (has_return taken || has_return after) ≡ true → has_return text ≡ true
+has_piece_return text taken after e h = rw (e, list_any-append) h
 
 cut_return : {mode : Mode} {number at end : ℕ} {text rest : List ℕ} {some : List Item} →
     Cut mode number at text some end rest → has_return rest ≡ true → has_return text ≡ true
 cut_return stop h = h
 cut_return {text = text} (piece {taken = taken} {after = after} e n c) h =
-    has_later_return text taken after (fits_longest e).cut (cut_return c h)
+    has_piece_return text taken after (fits_longest e).cut
+    (rw (cut_return c h) (or-true (has_return taken)))
 
 -- where the loop stands
 pub record SoFar (begin : ℕ) (mode : Mode) (number : ℕ) (text rest : List ℕ) (at : ℕ)
@@ -92,21 +74,17 @@ pub record SoFar (begin : ℕ) (mode : Mode) (number : ℕ) (text rest : List �
   pub holds : HoldsAll number nest all
 
 width_le : (rule : Rule) (taken : List ℕ) → width rule taken ≤ length (encode_utf8_all taken)
-width_le rule taken = go (is_group_mark rule) refl
-  where
-    go : (b : Bool) → is_group_mark rule ≡ b → width rule taken ≤ length (encode_utf8_all taken)
-    go true e = rw e (omega arith)
-    go false e = rw e (omega arith)
+width_le rule taken = grind arith
 
 -- the same piece, by another name
 pub decided_piece : (mode : Mode) (rule : Rule) (text rest taken other : List ℕ) →
     other ≡ taken → IsFirstFit text (rules_of mode) rule taken rest →
     IsFirstFit text (rules_of mode) rule other rest
 decided_piece mode rule text rest taken other e d =
-    subst (λ w. IsFirstFit text (rules_of mode) rule w rest) (sym e) d
+    rw e d
 
-module _ (begin : ℕ) (mode : Mode) (number : ℕ) (text rest : List ℕ) (at : ℕ)
-    (nest : State) (s : SoFar begin mode number text rest at nest) where
+module _ {begin : ℕ} {mode : Mode} {number : ℕ} {text rest : List ℕ} {at : ℕ} {nest : State}
+    (s : SoFar begin mode number text rest at nest) where
   -- the piece ends within the text
   place_fits : (rule : Rule) (after taken : List ℕ) → IsUtf8 rest → IsUtf8 after →
       IsFirstFit (chars rest) (rules_of mode) rule taken (chars after) →
@@ -125,17 +103,13 @@ module _ (begin : ℕ) (mode : Mode) (number : ℕ) (text rest : List ℕ) (at :
       SoFar begin mode number text after end new
   so_far_more after taken end new rule u v d e m g =
       let p = place_fits rule after taken u v d in
-      let h : HoldsAll number new (s.all ++ items number rule mode at taken (chars after)) =
-      subst (λ w. HoldsAll w new (s.all ++ items w rule mode at taken (chars after)))
-      s.same_source
-      (g.holds s.all (subst (λ w. HoldsAll w nest s.all) (sym s.same_source) s.holds)) in
       record {
         short = omega arith;
         same_source = g.same_source ∙ s.same_source;
         reached = reached_later new.groups at end (omega arith) (g.reached s.reached);
         all = s.all ++ items number rule mode at taken (chars after);
         cut = recut refl (sym e) refl (cut_more s.cut d m);
-        holds = h;
+        holds = rw (← s.same_source) (g.holds s.all (rw s.same_source s.holds));
       }
 
   -- white space and comments add no trees
@@ -186,29 +160,16 @@ module _ (begin : ℕ) (mode : Mode) (number : ℕ) (text rest : List ℕ) (at :
       IsRefusedFrom begin mode number (chars text) error
   refused_unclosed fewer group error e o is =
       refuses_here error (ap (λ w. w.source) is ∙ sym s.same_source)
-      (subst (λ w. RejectsAt mode nest.groups at (chars rest) w.kind w.at) (sym is)
-      (unclosed group.0 fewer e o))
+      (rw is (unclosed group.0 fewer e o))
 
   -- a fault at the next piece
-  pub fault_here : (taken after : List ℕ) (rule : Rule) (halt : Halt) (fault : LexFault) →
-      IsFirstFit (chars rest) (rules_of mode) rule taken after →
-      OnHalted halt (Halts nest.groups rule mode at taken after) → fault ≡ fault_of number at halt →
-      OnRefused fault (IsRefusedFrom begin mode number (chars text))
-  fault_here taken after rule Memory fault d h is =
-      subst (λ w. OnRefused w (IsRefusedFrom begin mode number (chars text))) (sym is) tt
-  fault_here taken after rule (Refused why) fault d h is =
-      subst (λ w. OnRefused w (IsRefusedFrom begin mode number (chars text))) (sym is)
-      (refuses_here (record { kind = why; source = number; at = at }) (sym s.same_source)
-      (refuses mode nest.groups rule at why (chars rest) taken after d h))
-
-  -- the same of the piece that a rule found, whichever it was
   pub fault_at : (halt : Halt) (fault : LexFault) →
       OnHalted halt (HaltsAt nest.groups mode at (chars rest)) → fault ≡ fault_of number at halt →
       OnRefused fault (IsRefusedFrom begin mode number (chars text))
-  fault_at Memory fault h is =
-      subst (λ w. OnRefused w (IsRefusedFrom begin mode number (chars text))) (sym is) tt
+  fault_at Memory fault h is = rw is tt
   fault_at (Refused why) fault h is =
-      fault_here h.piece h.after h.rule (Refused why) fault h.fits h.halts is
+      rw is (refuses_here (record { kind = why; source = number; at = at }) (sym s.same_source)
+      (refuses mode nest.groups h.rule at why (chars rest) h.piece h.after h.fits h.halts))
 
   -- a piece that was taken
   pub so_far_taken : (after : List ℕ) (end : ℕ) (new : State) → IsUtf8 rest → IsUtf8 after →
@@ -231,18 +192,18 @@ halted_at levels mode at text rule taken after (Refused why) d h =
 pub returns_in : (rules : List Rule) (rule : Rule) (text taken after : List ℕ) →
     IsFirstFit text rules rule taken after → has_return taken ≡ true → has_return text ≡ true
 returns_in rules rule text taken after d h =
-    has_piece_return text taken after (fits_longest d).cut h
+    has_piece_return text taken after (fits_longest d).cut (rw h refl)
 
 -- the rest of a text that isn't at its end
 pub some_left : (text : List ℕ) → IsUtf8 text → (length text == 0) ≡ false → chars text ≡ [] → ⊥
 some_left text u some none =
     let same : text ≡ [] = sym (encodes-chars text u) ∙ ap encode_utf8_all none in
-    false≢true (sym some ∙ ap (λ w. length w == 0) same)
+    false≢true (rw same at (sym some))
 
 pub nothing_left : (text : List ℕ) → (length text == 0) ≡ true → chars text ≡ []
 nothing_left [] e = chars-nil
 nothing_left (x ∷ text) e =
-    absurd (false≢true (sym (ne_eqb (length (x ∷ text)) 0 (λ z. absurd (omega arith))) ∙ e))
+    absurd (grind arith)
 
 pub ends_in_other : (mode : Mode) → EndsInOther (rules_of mode)
 unfolding all_rules
@@ -260,8 +221,7 @@ all_tried rules [] ends before = refl
 all_tried [] (c ∷ text) ends before = cc
 all_tried (r ∷ rules) (c ∷ text) ends before =
     absurd (before.none (length (r ∷ rules) - 1) Whitespace (omega arith) (omega arith)
-    (subst (λ w. HasPrefix (Spells w) (c ∷ text)) (sym ends)
-    (c ∷ [], text, refl, (c, refl, refl))))
+    (rw ends (c ∷ [], text, refl, (c, refl, refl))))
 
 pub so_far_start : (begin : ℕ) (mode : Mode) (number : ℕ) (text : List ℕ) (nest : State) →
     nest.source ≡ number → nest.groups ≡ [] → nest.levels ≡ nothing →
@@ -269,14 +229,11 @@ pub so_far_start : (begin : ℕ) (mode : Mode) (number : ℕ) (text : List ℕ) 
 so_far_start begin mode number text nest n o t = record {
   short = omega arith;
   same_source = n;
-  reached = subst (λ w. Reached w begin) (sym o) tt;
+  reached = rw o tt;
   all = [];
   cut = stop;
-  holds = subst (λ w. Holds number 256 w nest.levels.outer nest.levels.inner []) (sym o)
-      (subst (λ w. Holds number 256 [] w.outer w.inner []) (sym t)
-      (last (omega arith) no_items));
+  holds = rw (o, t) (last {n = 256} {f = no_trees} (omega arith) no_items);
 }
 
 pub none_left : (groups : List (Delimiter × ℕ)) (n : ℕ) → n ≡ 0 → n ≡ length groups → groups ≡ []
-none_left [] n z l = refl
-none_left (group ∷ groups) n z l = absurd (omega arith)
+none_left groups n z l = nil_from_length groups (sym l ∙ z)

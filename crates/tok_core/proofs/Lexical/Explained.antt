@@ -12,9 +12,7 @@ use Rattle.tok_lexical.specs.Widths.{bytes}
 use Rattle.tok_lexical.specs.declared.lex_error_kind.LexErrorKind.{LexErrorKind}
 use Rattle.tok_lexical.specs.declared.lex_error_kind.LexErrorKind.TheVariants.{MalformedQuoted}
 use Rattle.tok_lexical.specs.declared.quoted.QuotedFault.{QuotedFault}
-use Rattle.tok_lexical.proofs.EscapedChars.{heads, tails}
 use Rattle.tok_lexical.proofs.QuotedFaults.{fault_once}
-use Rattle.tok_lexical.specs.QuotedFaults.{IsQuotedFault}
 use Rattle.tok_core.specs.Lexical.Errors.{IsFaultOfKindAt, IsQuotedFaultAt, explained}
 use Rattle.tok_core.specs.Lexical.Laws.{IsExplainedOnce}
 
@@ -24,12 +22,8 @@ pub from_boundary : (text before after : List ℕ) (at : ℕ) → IsUtf8 text �
     × (chars text ≡ front ++ chars after) × (bytes front ≡ at)
 from_boundary text before after at u b e f l =
     let v : IsUtf8 before = subst IsUtf8 (sym e) (IsUtf8-take text at u b) in
-    let whole : before ++ after ≡ text = ap (λ w. w ++ after) e
-    ∙ ap (λ w. take at text ++ w) f ∙ take-append-drop at text in (
-      chars before,
-      sym (ap chars whole) ∙ chars-append before after v,
-      ap length (encodes-chars before v) ∙ l,
-    )
+    let whole : text ≡ before ++ after = cc (take-append-drop at text) in
+    (chars before, rw whole (chars-append before after v), cc (encodes-chars before v))
 
 back_scalars : (front rest : List ℕ) → scalars (front ++ rest) ≡ true → scalars rest ≡ true
 back_scalars [] rest h = h
@@ -41,11 +35,10 @@ pub no_boundary : (text front rest : List ℕ) (at : ℕ) → IsUtf8 text →
     (IsCharBoundary text at → ⊥) → chars text ≡ front ++ rest → bytes front ≡ at → ⊥
 no_boundary text front rest at u misses e l =
     let whole : text ≡ encode_utf8_all front ++ encode_utf8_all rest =
-    sym (encodes-chars text u) ∙ ap encode_utf8_all e ∙ encodes-append front rest in
+    cc (encodes-chars text u, encodes-append front rest) in
     let v : IsUtf8 (encode_utf8_all rest) =
-    (rest, (back_scalars front rest (sym (ap scalars e) ∙ scalars-chars text u), refl)) in
-    misses (subst (IsCharBoundary text) l
-    (IsCharBoundary-at_seam text (encode_utf8_all front) (encode_utf8_all rest) whole v))
+    (rest, (back_scalars front rest (rw e at (scalars-chars text u)), refl)) in
+    misses (rw l at (IsCharBoundary-at_seam text (encode_utf8_all front) _ whole v))
 
 -- a character takes a byte at least
 some_bytes : (c : ℕ) (cs : List ℕ) → bytes cs < bytes (c ∷ cs)
@@ -63,20 +56,17 @@ place_once [] rest (c ∷ before) after e l =
 place_once (c ∷ front) rest [] after e l =
     let some = some_bytes c front in absurd (omega (arith, l, some))
 place_once (c ∷ front) rest (d ∷ before) after e l =
-    let same = heads c d (front ++ rest) (before ++ after) e in
     let left = length-append (encode_utf8 c) (encode_utf8_all front) in
     let right = length-append (encode_utf8 d) (encode_utf8_all before) in
+    let same : c ≡ d = cc in
     let one = ap (λ x. length (encode_utf8 x)) same in
-    place_once front rest before after (tails c d (front ++ rest) (before ++ after) e)
-    (omega (arith, l, left, right, one))
+    place_once front rest before after (cc) (omega (arith, l, left, right, one))
 
 -- of the quoted literal at one byte one thing is wrong at most
 quoted_once : (text : List ℕ) (at : ℕ) (one other : Option (QuotedFault × ℕ)) →
     IsQuotedFaultAt text at one → IsQuotedFaultAt text at other → one ≡ other
 quoted_once text at one other (inl (front, rest, e, l, p)) (inl (before, after, f, m, q)) =
-    fault_once rest one other p
-    (subst (λ w. IsQuotedFault w other)
-    (sym (place_once front rest before after (sym e ∙ f) (l ∙ sym m))) q)
+    fault_once rest one other p (rw (place_once front rest before after (sym e ∙ f) (l ∙ sym m)) q)
 quoted_once text at one other (inl (front, rest, e, l, p)) (inr (none, q)) =
     absurd (none front rest e l)
 quoted_once text at one other (inr (none, p)) (inl (before, after, f, m, q)) =

@@ -1,14 +1,14 @@
 -- A text is cut to one list of items at most, or is refused in one way at most, and never both.
 use Rattle.std.proofs.Common.{◌≡◌, ◌∙◌, ◌+◌, ◌<◌, length, ℕ, inl, inr, List, [], ◌∷◌, ◌++◌, refl}
-use Rattle.std.proofs.Common.{sym, ap, subst, arith, reverse}
-use Rattle.std.specs.Prelude.{Option, Some, None}
-use Rattle.std.proofs.lemmas.List.{append-nil, reverse-append}
+use Rattle.std.proofs.Common.{sym, ap, arith, reverse}
+use Rattle.std.specs.Prelude.{None}
+use Rattle.std.proofs.lemmas.List.{append-nil}
 use Rattle.tok_core.specs.Lexical.Items.{Item, IsForest, Opens, inside}
 use Rattle.tok_lexical.specs.Errors.{error_kind}
 use Rattle.tok_core.specs.Lexical.Meaning.{items, doc_items, opens_group}
 use Rattle.tok_lexical.specs.Widths.{bytes}
 use Rattle.tok_lexical.specs.Docs.{is_inner_doc, line_doc_text, block_doc_text}
-use Rattle.std.specs.Prelude.{Bool, true, false, if◌then◌else◌}
+use Rattle.std.specs.Prelude.{Bool, true, false}
 use Rattle.std.proofs.lemmas.Bool.{false≢true}
 use Rattle.tok_lexical.specs.declared.delimiter.Delimiter.TheVariants.{Bracket}
 use Rattle.tok_lexical.specs.Fits.{IsFirstFit}
@@ -25,33 +25,23 @@ use Rattle.tok_core.proofs.Lexical.Runs.{Run, leaf_passed, first_opens, after_fr
 use Rattle.tok_core.proofs.Lexical.Runs.{one_left_open, first_closes}
 use Rattle.tok_lexical.proofs.Fits.{decides_unique, decides_nothing}
 use Rattle.tok_core.proofs.Lexical.Unique.{cuts}
+use Rattle.tok_core.proofs.Levels.{one_end}
 
 cut_nil : {mode : Mode} {number at end : ℕ} {rest : List ℕ} {all : List Item} →
     Cut mode number at [] all end rest → (all ≡ []) × (rest ≡ [])
 cut_nil stop = (refl, refl)
 cut_nil (piece d m c) = absurd (decides_nothing d)
 
-no_both : {A : Type 0} (x : A) (r s : Option A) → r ≡ s → r ≡ None → s ≡ Some x → ⊥
-no_both x r s e a b = cc
-
 -- what a rule means, seen at another decision of the same text
 same_kind : (mode : Mode) {text p r q s : List ℕ} {rule other : Rule} (at : ℕ) →
     IsFirstFit text (rules_of mode) rule p r → IsFirstFit text (rules_of mode) other q s →
-    error_kind rule mode at p r
-    ≡ error_kind other mode at q s
-same_kind mode {p = p} {r = r} {q = q} {s = s} {rule = rule} {other = other} at d e =
-    let w = decides_unique d e in
-    ap (λ x. error_kind x mode at p r) w.0 ∙ ap (λ x. error_kind other mode at x r) w.1
-    ∙ ap (λ x. error_kind other mode at q x) w.2
+    error_kind rule mode at p r ≡ error_kind other mode at q s
+same_kind mode at d e = let w = decides_unique d e in cc
 
 same_items : (mode : Mode) {text p r q s : List ℕ} {rule other : Rule} (number at : ℕ) →
     IsFirstFit text (rules_of mode) rule p r → IsFirstFit text (rules_of mode) other q s →
-    items number rule mode at p r
-    ≡ items number other mode at q s
-same_items mode {p = p} {r = r} {q = q} {s = s} {rule = rule} {other = other} number at d e =
-    let w = decides_unique d e in
-    ap (λ x. items number x mode at p r) w.0 ∙ ap (λ x. items number other mode at x r) w.1
-    ∙ ap (λ x. items number other mode at q x) w.2
+    items number rule mode at p r ≡ items number other mode at q s
+same_items mode number at d e = let w = decides_unique d e in cc
 
 -- a piece that opens a group comes only where one more may be open
 doc_opens : (number start end : ℕ) (inner : Bool) (text : List ℕ)
@@ -70,20 +60,15 @@ group_opens (Opening delimiter) mode number at taken after levels last more is r
     first_opens levels last delimiter at more run
 group_opens LineComment mode number at taken after levels last more is run =
     doc_opens number at (at + bytes taken) (is_inner_doc taken) (line_doc_text taken) levels last
-    more (subst (λ b. Run (reverse levels)
-    ((if b then doc_items number at (at + bytes taken) (is_inner_doc taken) (line_doc_text taken)
-    else []) ++ more) last) is run)
+    more (rw is at run)
 group_opens BlockComment mode number at taken after levels last more is run =
-    doc_opens number at (at + bytes taken) (is_inner_doc taken) (block_doc_text taken) levels
-    last more (subst
-    (λ b. Run (reverse levels)
-    ((if b then doc_items number at (at + bytes taken) (is_inner_doc taken)
-    (block_doc_text taken) else []) ++ more) last) is run)
+    doc_opens number at (at + bytes taken) (is_inner_doc taken) (block_doc_text taken) levels last
+    more (rw is at run)
 group_opens rule mode number at taken after levels last more is run = absurd (false≢true is)
 
 closes_none : (rule : Rule) (delimiter : Delimiter) (taken : List ℕ) → Closing delimiter ≡ rule →
     opens_group rule taken ≡ true → ⊥
-closes_none rule delimiter taken e is = false≢true (ap (λ r. opens_group r taken) e ∙ is)
+closes_none rule delimiter taken e is = false≢true (rw (← e) at is)
 
 -- where a text is refused, no piece follows that would nest
 no_piece : {mode : Mode} {levels : List (Delimiter × ℕ)} {at byte : ℕ} {why : LexErrorKind}
@@ -93,22 +78,17 @@ no_piece : {mode : Mode} {levels : List (Delimiter × ℕ)} {at byte : ℕ} {why
     error_kind rule mode at p r ≡ None →
     Run (reverse levels) (items number rule mode at p r ++ more)
     (reverse others) → ⊥
-no_piece {mode = mode} {at = at} number others more (by_rule e n) d m run = no_both _ _ _
-    (same_kind mode at d e)
-    m n
-no_piece {mode} {p = p} {r = r} {rule = rule} number others more (unclosed delimiter outer e l)
-    d m run = decides_nothing (subst (λ w. IsFirstFit w (rules_of mode) rule p r) e d)
+no_piece {mode = mode} {at = at} number others more (by_rule e n) d m run =
+    let same = same_kind mode at d e in cc
+no_piece number others more (unclosed delimiter outer e l) d m run = decides_nothing (rw e at d)
 no_piece {mode = mode} {levels = levels} {at = at} number others more
     (unopened delimiter q s e misfit) d m run =
     misfit (first_closes levels (reverse others) delimiter _ more
-    (subst (λ w. Run (reverse levels) (w ++ more) (reverse others))
-    (same_items mode number at d e) run))
+    (rw (same_items mode number at d e) at run))
 no_piece {mode = mode} {levels = levels} {at = at} number others more
-    (too_deep {rule = rule} q s e n is l) d m
-    run =
+    (too_deep {rule = rule} q s e n is l) d m run =
     let few = group_opens rule mode number at q s levels (reverse others) more is
-    (subst (λ w. Run (reverse levels) (w ++ more) (reverse others))
-    (same_items mode number at d e) run) in
+    (rw (same_items mode number at d e) at run) in
     absurd (omega arith)
 
 no_further : {mode : Mode} {levels others : List (Delimiter × ℕ)} {number at end byte : ℕ}
@@ -120,51 +100,34 @@ no_further f o stop p = (refl, refl, refl)
 no_further {others = others} {number = number} f o (piece {more = more} d m c) p =
     absurd (no_piece number others more f d m (after_front o p))
 
-same_last : (A : Type 0) (xs ys : List A) (x y : A) → xs ++ x ∷ [] ≡ ys ++ y ∷ [] → x ≡ y
-same_last A xs ys x y e =
-    let turned : x ∷ reverse xs ≡ y ∷ reverse ys = sym (reverse-append xs (x ∷ []))
-    ∙ ap reverse e ∙ reverse-append ys (y ∷ []) in
-    cc
-
-some_same : {A : Type 0} (x y : A) (r s : Option A) → r ≡ s → r ≡ Some x → s ≡ Some y → x ≡ y
-some_same x y r s e a b = cc
-
 one_error : {mode : Mode} {levels : List (Delimiter × ℕ)} {at b c : ℕ} {n m : LexErrorKind}
     {rest : List ℕ} → RejectsAt mode levels at rest n b → RejectsAt mode levels at rest m c →
     (n ≡ m) × (b ≡ c)
 one_error {mode = mode} {at = at} (by_rule d f) (by_rule e g) =
-    (some_same _ _ _ _ (same_kind mode at d e) f g, refl)
-one_error {mode} (by_rule {rule = rule} {taken = p} {after = r} d f)
-    (unclosed delimiter outer e l) =
-    absurd (decides_nothing (subst (λ w. IsFirstFit w (rules_of mode) rule p r) e d))
+    let same = same_kind mode at d e in (cc, refl)
+one_error (by_rule d f) (unclosed delimiter outer e l) = absurd (decides_nothing (rw e at d))
 one_error {mode = mode} {at = at} (by_rule d f) (unopened delimiter q s e misfit) =
-    absurd (no_both _ _ _ (sym (same_kind mode at d e)) refl f)
+    absurd (let same = same_kind mode at d e in cc)
 one_error {mode = mode} {at = at} (by_rule d f) (too_deep q s e n is l) =
-    absurd (no_both _ _ _ (sym (same_kind mode at d e)) n f)
-one_error {mode} (unclosed delimiter outer e l)
-    (by_rule {rule = rule} {taken = p} {after = r} d f) =
-    absurd (decides_nothing (subst (λ w. IsFirstFit w (rules_of mode) rule p r) e d))
-one_error (unclosed {start = start} delimiter outer e l)
-    (unclosed {start = begin} delimiter' outer' e' l') =
-    let same = same_last (Delimiter × ℕ) outer outer' (delimiter, start) (delimiter', begin)
-    (sym l ∙ l') in (refl, ap (λ w. w.1) same)
-one_error {mode} (unclosed delimiter outer e l) (unopened delimiter' q s d misfit) =
-    absurd (decides_nothing
-    (subst (λ w. IsFirstFit w (rules_of mode) (Closing delimiter') q s) e d))
-one_error {mode} (unclosed delimiter outer e l) (too_deep {rule = rule} q s d n is k) =
-    absurd (decides_nothing (subst (λ w. IsFirstFit w (rules_of mode) rule q s) e d))
+    absurd (let same = same_kind mode at d e in cc)
+one_error (unclosed delimiter outer e l) (by_rule d f) = absurd (decides_nothing (rw e at d))
+one_error (unclosed delimiter outer e l) (unclosed delimiter' outer' e' l') =
+    let same = one_end outer outer' _ _ (sym l ∙ l') in (refl, ap (λ w. w.1) same.1)
+one_error (unclosed delimiter outer e l) (unopened delimiter' q s d misfit) =
+    absurd (decides_nothing (rw e at d))
+one_error (unclosed delimiter outer e l) (too_deep q s d n is k) =
+    absurd (decides_nothing (rw e at d))
 one_error {mode = mode} {at = at} (unopened delimiter q s e misfit) (by_rule d f) =
-    absurd (no_both _ _ _ (same_kind mode at e d) refl f)
-one_error {mode} (unopened delimiter' q s d misfit) (unclosed delimiter outer e l) =
-    absurd (decides_nothing
-    (subst (λ w. IsFirstFit w (rules_of mode) (Closing delimiter') q s) e d))
+    absurd (let same = same_kind mode at e d in cc)
+one_error (unopened delimiter' q s d misfit) (unclosed delimiter outer e l) =
+    absurd (decides_nothing (rw e at d))
 one_error (unopened delimiter' q s d misfit) (unopened delimiter q' s' d' misfit') = (refl, refl)
 one_error (unopened delimiter' q s d misfit) (too_deep {rule = rule} q' s' d' n is l) =
     absurd (closes_none rule delimiter' q' (decides_unique d d').0 is)
 one_error {mode = mode} {at = at} (too_deep q s e n is l) (by_rule d f) =
-    absurd (no_both _ _ _ (same_kind mode at e d) n f)
-one_error {mode} (too_deep {rule = rule} q s d n is k) (unclosed delimiter outer e l) =
-    absurd (decides_nothing (subst (λ w. IsFirstFit w (rules_of mode) rule q s) e d))
+    absurd (let same = same_kind mode at e d in cc)
+one_error (too_deep q s d n is k) (unclosed delimiter outer e l) =
+    absurd (decides_nothing (rw e at d))
 one_error (too_deep {rule = rule} q' s' d' n is l) (unopened delimiter' q s d misfit) =
     absurd (closes_none rule delimiter' q' (sym (decides_unique d' d).0) is)
 one_error (too_deep q s d n is l) (too_deep q' s' d' n' is' l') = (refl, refl)
@@ -179,11 +142,10 @@ at_end (too_deep q s d n is l) = decides_nothing d
 pub one_cut : {mode : Mode} {number at end to : ℕ} {text : List ℕ}
     {all others : List Item} → Cut mode number at text all end [] →
     Cut mode number at text others to [] → all ≡ others
-one_cut {all = all} {others = others} c d =
-    elim (cuts c d) [
-      | inl (more, same, n) ↦ sym (same ∙ ap (λ w. all ++ w) (cut_nil n).0 ∙ append-nil all)
-      | inr (more, same, n) ↦ same ∙ ap (λ w. others ++ w) (cut_nil n).0 ∙ append-nil others
-    ]
+one_cut {all = all} {others = others} c d = elim (cuts c d) [
+  | inl (more, same, n) ↦ let none = cut_nil n in cc (append-nil all)
+  | inr (more, same, n) ↦ let none = cut_nil n in cc (append-nil others)
+]
 
 -- two fronts where the text is refused are one
 same_place : {mode : Mode} {number at b c end : ℕ} {n m : LexErrorKind} {rest after : List ℕ}
@@ -191,15 +153,11 @@ same_place : {mode : Mode} {number at b c end : ℕ} {n m : LexErrorKind} {rest 
     → RejectsAt mode levels at rest n b → RejectsAt mode others end after m c →
     Opens number 256 levels some → Opens number 256 others all → all ≡ some ++ more →
     Cut mode number at rest more end after → (n ≡ m) × (b ≡ c)
-same_place {mode} {number} {at} {b} {c} {end} {n} {m} {rest} {after} {levels} {others} {some}
-    {all} {more} f g o p same k =
-    let none = no_further f o k (subst (λ w. Opens number 256 others w) same p) in
-    let here : all ≡ some = same ∙ ap (λ w. some ++ w) none.0 ∙ append-nil some in
-    let level : others ≡ levels = one_left_open (subst (λ w. Opens number 256 others w) here p) o in
-    let moved : RejectsAt mode levels at rest m c = subst (λ w. RejectsAt mode levels w rest m c)
-    (sym none.2) (subst (λ w. RejectsAt mode levels end w m c) (sym none.1)
-    (subst (λ w. RejectsAt mode w end after m c) level g)) in
-    one_error f moved
+same_place {some = some} f g o p same k =
+    let none = no_further f o k (rw same at p) in
+    let here = append-nil some in
+    let level = one_left_open (rw (same, none.0, here) at p) o in
+    one_error f (rw (none.2, none.1, ← level) g)
 
 -- a front of the text is cut, with these groups open, and the rest is refused there
 abbrev IsRefusedAs : ℕ → Mode → ℕ → List ℕ → LexErrorKind → ℕ → Type 0
@@ -221,21 +179,14 @@ one_way begin mode number text n m b c (some, end, rest, levels, k, o, f)
 pub not_both : {mode : Mode} {begin number end byte : ℕ} {text : List ℕ} {some : List Item}
     {why : LexErrorKind} → IsForest number 256 some → Cut mode number begin text some end [] →
     IsRefusedAs begin mode number text why byte → ⊥
-not_both {mode} {number} {byte = b} {some = some} {why = n} f c (all, to, after, others, k, p, g) =
-    elim (cuts c k) [
-      | inl (more, same, j) ↦
-          let none = cut_nil j in
-          let here : all ≡ some = same ∙ ap (λ w. some ++ w) none.0 ∙ append-nil some in
-          let level : others ≡ [] = one_left_open (subst (λ w. Opens number 256 others w) here p)
-          (inside f) in
-          at_end (subst (λ w. RejectsAt mode [] to w n b) none.1
-          (subst (λ w. RejectsAt mode w to after n b) level g))
-      | inr (more, same, j) ↦
-          let none = no_further g p j (subst (λ w. Opens number 256 [] w) same (inside f)) in
-          let here : some ≡ all = same ∙ ap (λ w. all ++ w) none.0 ∙ append-nil all in
-          let level : others ≡ [] =
-          one_left_open (subst (λ w. Opens number 256 others w) (sym here) p) (inside f)
-          in
-          at_end (subst (λ w. RejectsAt mode [] to w n b) none.1
-          (subst (λ w. RejectsAt mode w to after n b) level g))
-    ]
+not_both {some = some} f c (all, to, after, others, k, p, g) = elim (cuts c k) [
+  | inl (more, same, j) ↦
+      let none = cut_nil j in
+      let level = one_left_open (rw (same, none.0, append-nil some) at p) (inside f) in
+      at_end (rw (none.1, level) at g)
+  | inr (more, same, j) ↦
+      let none = no_further g p j (rw same at (inside f)) in
+      let here : some ≡ all = cc (append-nil all) in
+      let level = one_left_open (rw (← here) at p) (inside f) in
+      at_end (rw (none.1, level) at g)
+]

@@ -1,7 +1,7 @@
 -- Items taken one after the other, with the groups that they leave open, innermost first: one
 -- list of items leads to one list of groups.
-use Rattle.std.proofs.Common.{◌≡◌, ◌∙◌, ℕ, ◌+◌, ◌<◌, ◌≤◌, List, [], ◌∷◌, ◌++◌, length, refl, sym}
-use Rattle.std.proofs.Common.{ap, subst, arith, append_assoc, reverse}
+use Rattle.std.proofs.Common.{◌≡◌, ℕ, ◌+◌, ◌<◌, ◌≤◌, List, [], ◌∷◌, ◌++◌, length, refl}
+use Rattle.std.proofs.Common.{arith, append_assoc, reverse}
 use Rattle.std.proofs.lemmas.List.{append-nil, length-reverse, reverse-append, reverse-reverse}
 use Rattle.tok_leaves.specs.Leaves.{Leaf}
 use Rattle.tok_core.specs.Forest.{Forest}
@@ -10,9 +10,11 @@ use Rattle.tok_core.specs.Lexical.Items.{leaf_first, group_first, depth, Opens, 
 use Rattle.tok_core.specs.Lexical.Items.{IsOpenBy}
 use Rattle.tok_lexical.specs.declared.delimiter.Delimiter.{Delimiter}
 
+-- the open groups, innermost first: a delimiter, and the byte of its opening
 abbrev pub Levels : Type 0
 Levels = List (Delimiter × ℕ)
 
+-- one item: a leaf changes nothing, an opening adds a group, and a closing ends the innermost one
 pub data Step : Levels → Item → Levels → Type 0 where
   stays : {levels : Levels} {l : Leaf} → Step levels (leaf_item l) levels
   opens : {levels : Levels} {delimiter : Delimiter} {start : ℕ} → length levels < 256 →
@@ -20,6 +22,7 @@ pub data Step : Levels → Item → Levels → Type 0 where
   closes : {levels : Levels} {delimiter closer : Delimiter} {start end : ℕ} →
       delimiter ≡ closer → Step ((delimiter, start) ∷ levels) (closing closer end) levels
 
+-- items in turn
 pub data Run : Levels → List Item → Levels → Type 0 where
   ends : {levels : Levels} → Run levels [] levels
   goes : {levels next last : Levels} {x : Item} {items : List Item} → Step levels x next →
@@ -40,8 +43,7 @@ run_append (goes x r) s = goes x (run_append r s)
 run_after : {one two three : Levels} {xs ys : List Item} → Run one xs two →
     Run one (xs ++ ys) three → Run two ys three
 run_after ends s = s
-run_after {three = three} {ys = ys} (goes {items = items} x r) (goes y s) =
-    run_after r (subst (λ w. Run w (items ++ ys) three) (step_unique y x) s)
+run_after (goes x r) (goes y s) = run_after r (rw (step_unique y x) at s)
 
 forest_runs : {number : ℕ} {f : Forest} {items : List Item} (levels : Levels) →
     length levels + depth f ≤ 256 → Flat number f items → Run levels items levels
@@ -68,21 +70,21 @@ opens_runs levels l (within {delimiter = delimiter} {start = start} before items
 onto_is : (levels outer : Levels) → onto levels outer ≡ reverse levels ++ outer
 unfolding onto
 onto_is [] outer = refl
-onto_is (p ∷ levels) outer = onto_is levels (p ∷ outer)
-    ∙ sym (append_assoc (reverse levels) (p ∷ []) outer)
-    ∙ ap (λ w. w ++ outer) (sym (reverse-append (p ∷ []) levels))
+onto_is (p ∷ levels) outer =
+    cc (
+      onto_is levels (p ∷ outer),
+      append_assoc (reverse levels) (p ∷ []) outer,
+      reverse-append (p ∷ []) levels,
+    )
 
 -- the groups left open, innermost first
 left_open : {number : ℕ} {levels : Levels} {items : List Item} → Opens number 256 levels items →
     Run [] items (reverse levels)
-left_open {levels = levels} {items = items} o = subst (λ w. Run [] items w) (onto_is levels []
-    ∙ append-nil (reverse levels)) (opens_runs [] (omega arith) o)
+left_open {levels = levels} o =
+    rw (onto_is levels [], append-nil) at (opens_runs [] (omega arith) o)
 
 nothing_left : {one two : Levels} → Run one [] two → one ≡ two
 nothing_left ends = refl
-
-same_levels : (levels others : Levels) → reverse levels ≡ reverse others → levels ≡ others
-same_levels levels others e = sym (reverse-reverse levels) ∙ ap reverse e ∙ reverse-reverse others
 
 -- the items of one front, and of a longer one
 pub after_front : {number : ℕ} {levels others : Levels} {items more : List Item} →
@@ -92,10 +94,10 @@ after_front o p = run_after (left_open o) (left_open p)
 
 pub one_left_open : {number : ℕ} {levels others : Levels} {items : List Item} →
     Opens number 256 levels items → Opens number 256 others items → levels ≡ others
-one_left_open {number} {levels} {others} {items} o p =
-    let q : Opens number 256 others (items ++ []) = subst (λ w. Opens number 256 others w)
-    (sym (append-nil items)) p in
-    same_levels levels others (nothing_left (after_front o q))
+one_left_open {levels = levels} {others = others} {items = items} o p =
+    let same : reverse levels ≡ reverse others =
+    nothing_left (after_front {others = others} o (rw (append-nil items) p)) in
+    cc (reverse-reverse levels, reverse-reverse others)
 
 -- a closing delimiter comes only where the group that is open innermost is its own
 pub first_closes : (levels last : Levels) (delimiter : Delimiter) (end : ℕ) (items : List Item) →
@@ -108,8 +110,7 @@ first_closes levels last delimiter end items r = go (reverse levels) refl r
     go ((d, start) ∷ inner) e (goes (closes f) s) = (
       reverse inner,
       start,
-      sym (reverse-reverse levels) ∙ ap reverse e
-          ∙ reverse-append ((d, start) ∷ []) inner ∙ ap (λ w. reverse inner ++ (w, start) ∷ []) f,
+      cc (reverse-reverse levels, reverse-append ((d, start) ∷ []) inner),
     )
 
 -- a leaf changes nothing
@@ -124,5 +125,5 @@ opens_here inner last delimiter start items (goes (opens l) r) = l
 pub first_opens : (levels last : Levels) (delimiter : Delimiter) (start : ℕ)
     (items : List Item) → Run (reverse levels) (opening delimiter start ∷ items) last →
     length levels < 256
-first_opens levels last delimiter start items r = let e = length-reverse levels in
-    let l = opens_here (reverse levels) last delimiter start items r in omega arith
+first_opens levels last delimiter start items r =
+    rw (← (length-reverse levels)) (opens_here (reverse levels) last delimiter start items r)

@@ -1,5 +1,5 @@
 -- Why a piece is refused, and so the text.
-use Rattle.std.proofs.Common.{◌≡◌, ◌∙◌, ℕ, List, sym, subst, Ok, Err, Result}
+use Rattle.std.proofs.Common.{◌≡◌, ◌∙◌, ℕ, List, sym, Ok, Err, Result}
 use Rattle.std.specs.Prelude.{Option, Some, None, true}
 use Rattle.std.specs.Result.{IfErr}
 use Rattle.tok_core.specs.Private.Built.{Halts, by_meaning, unfit, deep, State, IsTooDeep, IsUnfit}
@@ -28,16 +28,14 @@ module _ (nest : State) (rule : Rule) (mode : Mode) (at : ℕ) (piece after : Li
       IfErr r (λ halt. OnHalted halt (Halts nest.groups rule mode at piece after))
   halts_deep (Ok x) m is h = tt
   halts_deep (Err Memory) m is h = tt
-  halts_deep (Err (Refused why)) m is (e, l) = subst (Halts nest.groups rule mode at piece after)
-      (sym e) (deep m is l)
+  halts_deep (Err (Refused why)) m is (e, l) = rw e (deep m is l)
 
   pub halts_unfit : {T : Type 0} (delimiter : Delimiter) (r : Result T Halt) →
       rule ≡ Closing delimiter → IfErr r (λ halt. OnHalted halt (IsUnfit nest delimiter)) →
       IfErr r (λ halt. OnHalted halt (Halts nest.groups rule mode at piece after))
   halts_unfit delimiter (Ok x) is h = tt
   halts_unfit delimiter (Err Memory) is h = tt
-  halts_unfit delimiter (Err (Refused why)) is (e, misfit) =
-      subst (Halts nest.groups rule mode at piece after) (sym e) (unfit delimiter is misfit)
+  halts_unfit delimiter (Err (Refused why)) is (e, misfit) = rw e (unfit delimiter is misfit)
 
 -- a piece that halts refuses the text
 pub refuses : (mode : Mode) (levels : List (Delimiter × ℕ)) (rule : Rule) (at : ℕ)
@@ -46,6 +44,5 @@ pub refuses : (mode : Mode) (levels : List (Delimiter × ℕ)) (rule : Rule) (at
     Halts levels rule mode at piece after why → RejectsAt mode levels at rest why at
 refuses mode levels rule at why rest piece after d (by_meaning m) = by_rule d m
 refuses mode levels rule at why rest piece after d (unfit delimiter r misfit) =
-    unopened delimiter piece after
-    (subst (λ w. IsFirstFit rest (rules_of mode) w piece after) r d) misfit
+    unopened delimiter piece after (rw r at d) misfit
 refuses mode levels rule at why rest piece after d (deep m is l) = too_deep piece after d m is l

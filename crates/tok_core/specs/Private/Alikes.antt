@@ -1,15 +1,13 @@
 -- Equality but for spans.
-use Rattle.std.proofs.Common.{◌≡◌, ◌∙◌, sym, ap, refl, ℕ, Bool, true, false, ◌&&◌, ◌++◌, arith}
+use Rattle.std.proofs.Common.{◌≡◌, ◌∙◌, sym, ap, refl, ℕ, Bool, true, ◌&&◌, ◌++◌, arith}
 use Rattle.std.proofs.lemmas.Slice.Eq.{bytes_eq-Decides}
 use Rattle.std.specs.Prelude.{◌==◌}
 use Rattle.std.specs.Bool.{Decides}
-use Rattle.std.specs.Cmp.{IsEquivalence, equiv}
+use Rattle.std.specs.Cmp.{IsEquivalence, both_ways, equiv}
+use Rattle.std.proofs.lemmas.Bool.{and_parts}
 use Rattle.std.specs.Hash as fed
 use Rattle.tok_lexical.specs.declared.delimiter.Delimiter.{Delimiter}
-use Rattle.tok_lexical.specs.declared.delimiter.Delimiter.TheVariants.{Parenthesis, Brace, Bracket}
-use Rattle.tok_lexical.specs.declared.delimiter.Delimiter.TheVariants.{None}
 use Rattle.tok_leaves.specs.declared.punct.Spacing.{Spacing}
-use Rattle.tok_leaves.specs.declared.punct.Spacing.TheVariants.{Alone, Joint}
 use Rattle.tok_core.specs.Code.{delimiter_code}
 use Rattle.tok_leaves.specs.Leaves.{Leaf, ident, punct, literal}
 use Rattle.tok_core.specs.Forest.{Tree, leaf, group, Forest, no_trees, tree}
@@ -18,48 +16,21 @@ use Rattle.tok_core.specs.Spanless.{leaf_spanless, spanless, tree_spanless, same
 use Rattle.tok_core.specs.Spanless.{same_spacing, leaf_alike, alike, tree_alike, tree_input}
 use Rattle.tok_core.specs.Spanless.{forest_input}
 
--- both parts of a true conjunction are true
-both : (a b : Bool) → (a && b) ≡ true → (a ≡ true) × (b ≡ true)
-both true b e = (refl, e)
-both false b e = (e, cc)
-
 -- the test of delimiters is true of equal ones alone
 same_delimiter_is : (d e : Delimiter) → same_delimiter d e ≡ true → d ≡ e
-same_delimiter_is Parenthesis Parenthesis e = refl
-same_delimiter_is Brace Brace e = refl
-same_delimiter_is Bracket Bracket e = refl
-same_delimiter_is None None e = refl
-same_delimiter_is Parenthesis Brace e = cc
-same_delimiter_is Parenthesis Bracket e = cc
-same_delimiter_is Parenthesis None e = cc
-same_delimiter_is Brace Parenthesis e = cc
-same_delimiter_is Brace Bracket e = cc
-same_delimiter_is Brace None e = cc
-same_delimiter_is Bracket Parenthesis e = cc
-same_delimiter_is Bracket Brace e = cc
-same_delimiter_is Bracket None e = cc
-same_delimiter_is None Parenthesis e = cc
-same_delimiter_is None Brace e = cc
-same_delimiter_is None Bracket e = cc
+same_delimiter_is d e h = grind arith
 
 -- the test of delimiters is true of each and itself
 same_delimiter_refl : (d : Delimiter) → same_delimiter d d ≡ true
-same_delimiter_refl Parenthesis = refl
-same_delimiter_refl Brace = refl
-same_delimiter_refl Bracket = refl
-same_delimiter_refl None = refl
+same_delimiter_refl d = grind arith
 
 -- the test of spacings is true of equal ones alone
 same_spacing_is : (j k : Spacing) → same_spacing j k ≡ true → j ≡ k
-same_spacing_is Alone Alone e = refl
-same_spacing_is Joint Joint e = refl
-same_spacing_is Alone Joint e = cc
-same_spacing_is Joint Alone e = cc
+same_spacing_is j k e = grind arith
 
 -- the test of spacings is true of each and itself
 same_spacing_refl : (j : Spacing) → same_spacing j j ≡ true
-same_spacing_refl Alone = refl
-same_spacing_refl Joint = refl
+same_spacing_refl j = grind arith
 
 -- the test of numbers is true of equal ones alone
 same_number : (c d : ℕ) → (c == d) ≡ true → c ≡ d
@@ -75,48 +46,30 @@ leaf_alike_is (ident s a) (ident t b) e = ap (λ x. ident x call_site) ((bytes_e
 leaf_alike_is (literal s a) (literal t b) e =
     ap (λ x. literal x call_site) ((bytes_eq-Decides s t).0 e)
 leaf_alike_is (punct c j a) (punct d k b) e =
-    let p = both (c == d) (same_spacing j k) e in
-    ap (λ x. punct x j call_site) (same_number c d p.0)
-    ∙ ap (λ x. punct d x call_site) (same_spacing_is j k p.1)
-leaf_alike_is (ident s a) (punct d k b) e = cc
-leaf_alike_is (ident s a) (literal t b) e = cc
-leaf_alike_is (literal s a) (ident t b) e = cc
-leaf_alike_is (literal s a) (punct d k b) e = cc
-leaf_alike_is (punct c j a) (ident t b) e = cc
-leaf_alike_is (punct c j a) (literal t b) e = cc
+    let p = and_parts (c == d) (same_spacing j k) e in
+    cc (same_number c d p.0, same_spacing_is j k p.1)
+leaf_alike_is l k e = cc
 
 mutual
   -- forests that are alike are equal without their spans
   alike_is : (f g : Forest) → alike f g ≡ true → spanless f ≡ spanless g
   alike_is no_trees no_trees e = refl
-  alike_is no_trees (tree u g) e = cc
-  alike_is (tree t f) no_trees e = cc
   alike_is (tree t f) (tree u g) e =
-      let p = both (tree_alike t u) (alike f g) e in
-      ap (λ x. tree x (spanless f)) (tree_alike_is t u p.0)
-      ∙ ap (tree (tree_spanless u)) (alike_is f g p.1)
+      let p = and_parts (tree_alike t u) (alike f g) e in
+      cc (tree_alike_is t u p.0, alike_is f g p.1)
+  alike_is f g e = cc
 
   -- trees that are alike are equal without their spans
   tree_alike_is : (t u : Tree) → tree_alike t u ≡ true → tree_spanless t ≡ tree_spanless u
   tree_alike_is (leaf l) (leaf k) e = ap leaf (leaf_alike_is l k e)
-  tree_alike_is (leaf l) (group d f s) e = cc
-  tree_alike_is (group d f s) (leaf k) e = cc
   tree_alike_is (group d f s) (group e g r) h =
-      let p = both (same_delimiter d e) (alike f g) h in
-      ap (λ x. group x (spanless f) call_site) (same_delimiter_is d e p.0)
-      ∙ ap (λ x. group e x call_site) (alike_is f g p.1)
+      let p = and_parts (same_delimiter d e) (alike f g) h in
+      cc (same_delimiter_is d e p.0, alike_is f g p.1)
+  tree_alike_is t u e = cc
 
 -- spans don't count
 leaf_alike_spanless : (l k : Leaf) → leaf_alike l k ≡ leaf_alike (leaf_spanless l) (leaf_spanless k)
-leaf_alike_spanless (ident s a) (ident t b) = refl
-leaf_alike_spanless (ident s a) (punct d k b) = refl
-leaf_alike_spanless (ident s a) (literal t b) = refl
-leaf_alike_spanless (literal s a) (ident t b) = refl
-leaf_alike_spanless (literal s a) (punct d k b) = refl
-leaf_alike_spanless (literal s a) (literal t b) = refl
-leaf_alike_spanless (punct c j a) (ident t b) = refl
-leaf_alike_spanless (punct c j a) (punct d k b) = refl
-leaf_alike_spanless (punct c j a) (literal t b) = refl
+leaf_alike_spanless l k = grind arith
 
 mutual
   -- spans don't count for forests
@@ -140,33 +93,31 @@ leaf_alike_refl : (l : Leaf) → leaf_alike l l ≡ true
 leaf_alike_refl (ident s a) = (bytes_eq-Decides s s).1 refl
 leaf_alike_refl (literal s a) = (bytes_eq-Decides s s).1 refl
 leaf_alike_refl (punct c j a) =
-    ap (λ b. b && same_spacing j j) (number_refl c) ∙ same_spacing_refl j
+    rw (number_refl c) (same_spacing_refl j)
 
 mutual
   -- each forest is alike to itself
   alike_refl : (f : Forest) → alike f f ≡ true
   alike_refl no_trees = refl
-  alike_refl (tree t f) = ap (λ b. b && alike f f) (tree_alike_refl t) ∙ alike_refl f
+  alike_refl (tree t f) = rw (tree_alike_refl t) (alike_refl f)
 
   -- each tree is alike to itself
   tree_alike_refl : (t : Tree) → tree_alike t t ≡ true
   tree_alike_refl (leaf l) = leaf_alike_refl l
-  tree_alike_refl (group d f s) = ap (λ b. b && alike f f) (same_delimiter_refl d) ∙ alike_refl f
+  tree_alike_refl (group d f s) = rw (same_delimiter_refl d) (alike_refl f)
 
 -- two forests are alike if and only if they are equal without their spans
 pub alike_decides : (f g : Forest) → Decides (alike f g) (spanless f ≡ spanless g)
 alike_decides f g = (
   alike_is f g,
-  λ e. alike_spanless f g ∙ ap (alike (spanless f)) (sym e)
-      ∙ alike_refl (spanless f),
+  λ e. rw (alike_spanless f g, e) (alike_refl (spanless g)),
 )
 
 -- two trees are alike if and only if they are equal without their spans
 pub tree_alike_decides : (t u : Tree) → Decides (tree_alike t u) (tree_spanless t ≡ tree_spanless u)
 tree_alike_decides t u = (
   tree_alike_is t u,
-  λ e. tree_alike_spanless t u ∙ ap (tree_alike (tree_spanless t)) (sym e)
-      ∙ tree_alike_refl (tree_spanless t),
+  λ e. rw (tree_alike_spanless t u, e) (tree_alike_refl (tree_spanless u)),
 )
 
 -- a test that decides whether two things have one image is an equivalence
@@ -174,14 +125,10 @@ by_image : {A B : Type 0} (E : A → A → Bool) (image : A → B) →
     ((x y : A) → Decides (E x y) (image x ≡ image y)) → IsEquivalence E
 by_image E image d =
     equiv (record {
-      symm = λ x y. one (E x y) (E y x) (λ e. (d y x).1 (sym ((d x y).0 e)))
+      symm = λ x y. both_ways (E x y) (E y x) (λ e. (d y x).1 (sym ((d x y).0 e)))
           (λ e. (d x y).1 (sym ((d y x).0 e)));
       trans = λ x y z e h. (d x z).1 ((d x y).0 e ∙ (d y z).0 h);
-    }) (λ x. (d x x).1 refl) where
-      one : (a b : Bool) → (a ≡ true → b ≡ true) → (b ≡ true → a ≡ true) → a ≡ b
-      one true b f g = sym (f refl)
-      one false true f g = g refl
-      one false false f g = refl
+    }) (λ x. (d x x).1 refl)
 
 -- to be alike is an equivalence of forests
 pub alike_equivalence : IsEquivalence alike

@@ -7,6 +7,7 @@ use Rattle.tok_core.specs.Seen.{tree_of, group_of}
 use Rattle.tok_core.proofs.SameVisible.{group_same, group_content, if_ok_follows}
 use Rattle.tok_core.proofs.invisible.+same.Goals as goal
 
+-- the visible trees of one tree
 abbrev erased : Tree → Forest
 erased t = erase (tree t no_trees)
 

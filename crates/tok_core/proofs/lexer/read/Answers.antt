@@ -19,34 +19,24 @@ take_first-requires-clause-some g c = some_left c.loop-rest.rest.now c.loop-rest
     (sym c.is_empty.ensures ∙ c.loop-rest-test.true)
 
 pub take_first-requires-clause-fits : goal.take_first-requires-clause-fits
-take_first-requires-clause-fits g c =
-    let s = c.loop-rest.invariant.1.short in
-    let f = c.requires.fits in
-    omega arith
+take_first-requires-clause-fits g c = omega (arith, c.loop-rest.invariant.1.short, c.requires.fits)
 
 pub take_first-requires-clause-paired : goal.take_first-requires-clause-paired
-take_first-requires-clause-paired g c = nest_is_paired _ _ _ _ c.loop-rest.rest.now _
-    (state g.B.Build.levels c.loop-rest.nest) c.loop-rest.invariant.1
+take_first-requires-clause-paired g c = nest_is_paired c.loop-rest.invariant.1
 
 pub take_first-requires-clause-returns : goal.take_first-requires-clause-returns
-take_first-requires-clause-returns g c = λ h. c.may_have_return-returns.ensures
-    (returns_left _ _ _ _ c.loop-rest.rest.now _ (state g.B.Build.levels c.loop-rest.nest)
-    c.loop-rest.invariant.1 h)
+take_first-requires-clause-returns g c =
+    λ h. c.may_have_return-returns.ensures (returns_left c.loop-rest.invariant.1 h)
 
 pub returns-in-Err-clause-refuses : goal.returns-in-Err-clause-refuses
-returns-in-Err-clause-refuses g c = fault_at _ _ _ _ c.loop-rest.rest.now _
-    (state g.B.Build.levels c.loop-rest.nest) c.loop-rest.invariant.1 c.in-Err.halt _
-    c.in-Err.ensures.refused c.fault.ensures
+returns-in-Err-clause-refuses g c =
+    fault_at c.loop-rest.invariant.1 c.in-Err.halt _ c.in-Err.ensures.refused c.fault.ensures
 
 pub overflow_add-at : goal.overflow_add-at
 overflow_add-at g c =
-    let here = so_far_taken _ _ _ _ c.loop-rest.rest.now c.loop-rest.at
-    (state g.B.Build.levels c.loop-rest.nest) c.loop-rest.invariant.1 c.in-Ok.taken.1.now
-    c.in-Ok.taken.0 (state g.B.Build.levels c.take_first.new.self) c.loop-rest.invariant.0
-    c.in-Ok.ensures.utf8 c.in-Ok.ensures.taken in
-    let s = here.short in
-    let f = c.requires.fits in
-    omega arith
+    let here = so_far_taken c.loop-rest.invariant.1 c.in-Ok.taken.1.now _ _
+    c.loop-rest.invariant.0 c.in-Ok.ensures.utf8 c.in-Ok.ensures.taken in
+    omega (arith, here.short, c.requires.fits)
 
 pub loop-rest-smaller : goal.loop-rest-smaller
 loop-rest-smaller g c =
@@ -57,34 +47,26 @@ loop-rest-smaller g c =
 
 pub loop-rest-preserved : goal.loop-rest-preserved
 loop-rest-preserved g c =
-    let here = so_far_taken _ _ _ _ c.loop-rest.rest.now c.loop-rest.at
-    (state g.B.Build.levels c.loop-rest.nest) c.loop-rest.invariant.1 c.in-Ok.taken.1.now
-    c.in-Ok.taken.0 (state g.B.Build.levels c.take_first.new.self) c.loop-rest.invariant.0
-    c.in-Ok.ensures.utf8 c.in-Ok.ensures.taken in (
-      c.past_blanks-rest.utf8,
-      so_far_blank _ _ _ _ c.in-Ok.taken.1.now _
-          (state g.B.Build.levels c.take_first.new.self) here
-          c.past_blanks-rest.result.now _ refl c.past_blanks-rest.ensures.shorter
-          c.past_blanks-rest.ensures.blank,
-    )
+    let here = so_far_taken c.loop-rest.invariant.1 c.in-Ok.taken.1.now _ _
+    c.loop-rest.invariant.0 c.in-Ok.ensures.utf8 c.in-Ok.ensures.taken in
+    let rest = c.past_blanks-rest.ensures in
+    (c.past_blanks-rest.utf8, so_far_blank here _ _ refl rest.shorter rest.blank)
 
 pub returns-in-Some-clause-refuses : goal.returns-in-Some-clause-refuses
-returns-in-Some-clause-refuses g c = refused_unclosed _ _ _ _ c.loop-rest.rest.now _
-    (state g.B.Build.levels c.loop-rest.nest) c.loop-rest.invariant.1 c.pop.new.self.items
+returns-in-Some-clause-refuses g c =
+    refused_unclosed c.loop-rest.invariant.1 c.pop.new.self.items
     (c.in-Some.field-0-0, c.in-Some.begin) c.new-error.result
     (nothing_left c.loop-rest.rest.now (sym c.is_empty.ensures ∙ c.loop-rest-test.false))
     c.in-Some.ensures.items c.new-error.ensures
 
 pub returns-clause-reads : goal.returns-clause-reads
 returns-clause-reads g c =
-    (reads_all _ _ _ _ c.loop-rest.rest.now _ (state g.B.Build.levels c.loop-rest.nest)
-    c.loop-rest.invariant.1
+    (reads_all c.loop-rest.invariant.1
     (nothing_left c.loop-rest.rest.now (sym c.is_empty.ensures ∙ c.loop-rest-test.false))
     (none_left _ _ c.in-None.ensures.cases.0 c.loop-rest.nest.«open».ok.0)).1
 
 pub returns-clause-closed : goal.returns-clause-closed
 returns-clause-closed g c =
-    (reads_all _ _ _ _ c.loop-rest.rest.now _ (state g.B.Build.levels c.loop-rest.nest)
-    c.loop-rest.invariant.1
+    (reads_all c.loop-rest.invariant.1
     (nothing_left c.loop-rest.rest.now (sym c.is_empty.ensures ∙ c.loop-rest-test.false))
     (none_left _ _ c.in-None.ensures.cases.0 c.loop-rest.nest.«open».ok.0)).0

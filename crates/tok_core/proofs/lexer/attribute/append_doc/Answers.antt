@@ -1,5 +1,4 @@
 use Rattle.std.proofs.Common.{◌∙◌, ap}
-use Rattle.tok_core.specs.Building.{add_forest, add_leaf}
 use Rattle.tok_core.specs.Forest.{tree, no_trees, concat}
 use Rattle.tok_core.specs.Private.Attribute.{bang, doc_group}
 use Rattle.std.specs.Str.{chars}
@@ -11,9 +10,11 @@ returns g c =
     let old = g.B.Build.levels c.args.built.now in
     let between = bang c.args.span c.args.is_inner in
     let last = tree (doc_group c.args.span (chars c.args.text.now)) no_trees in
-    c.in_ok-append_group.ensures
-    ∙ ap (add_forest last) (c.in_ok-append_bang.ensures
-    ∙ ap (add_forest between) (c.in_ok-punct.ensures.ok
-    ∙ ap (λ l. add_leaf l old) c.unchecked_punct.ensures))
-    ∙ ap (λ f. record { outer = old.outer; inner = f }) (joined_assoc _ between last
-    ∙ joined_assoc old.inner _ (concat between last))
+    rw (
+      c.in_ok-append_group.ensures,
+      c.in_ok-append_bang.ensures,
+      c.in_ok-punct.ensures.ok,
+      c.unchecked_punct.ensures,
+    )
+    (ap (λ f. record { outer = old.outer; inner = f }) (joined_assoc _ between last
+    ∙ joined_assoc old.inner _ (concat between last)))

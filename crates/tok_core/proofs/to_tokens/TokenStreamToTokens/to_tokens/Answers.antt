@@ -1,6 +1,4 @@
-use Rattle.std.proofs.Common.{◌≡◌, ◌∙◌, sym, ap, subst, rules}
-use Rattle.tok_core.specs.Forest.{AppendsFront, Forest, concat, no_trees, tree}
-use Rattle.tok_core.specs.Seen.{tree_of}
+use Rattle.std.proofs.Common.{◌≡◌, ◌∙◌, sym, rules}
 use Rattle.tok_core.proofs.Facts.{concat-none}
 use Rattle.tok_core.proofs.Fronts.{some_appended, trees_of_take}
 use Rattle.tok_core.proofs.to_tokens.TokenStreamToTokens.to_tokens.Goals as goal
@@ -10,17 +8,15 @@ loop-next-init c = sym (concat-none c.args.tokens.now)
 
 pub returns-in_err-clone-clause-err : goal.returns-in_err-clone-clause-err
 returns-in_err-clone-clause-err c =
-    let P : Forest → Type 0 = λ all. AppendsFront c.args.tokens.now all c.loop-next.tokens in
-    let stopped : P c.args.self.now = subst P c.trees-next-items.ensures
+    let stopped = rw c.trees-next-items.ensures at
     (some_appended _ _ c.trees-next-items.result.now c.loop-next.next-index
     c.next-item.result c.loop-next-test.true c.next-item.is c.loop-next.invariant) in
     search rules
 
 pub returns-in_err-append-clause-err : goal.returns-in_err-append-clause-err
 returns-in_err-append-clause-err c =
-    let P : Forest → Type 0 = λ all. AppendsFront c.args.tokens.now all c.append.new.self in
     let same : c.append.new.self ≡ c.loop-next.tokens = c.in_err-append.ensures.err in
-    let stopped : P c.args.self.now = subst P c.trees-next-items.ensures
+    let stopped = rw c.trees-next-items.ensures at
     (some_appended _ _ c.trees-next-items.result.now c.loop-next.next-index
     c.next-item.result c.loop-next-test.true c.next-item.is
     (same ∙ c.loop-next.invariant)) in
@@ -28,10 +24,6 @@ returns-in_err-append-clause-err c =
 
 pub loop-next-preserved : goal.loop-next-preserved
 loop-next-preserved c =
-    let added : c.append.new.self ≡ concat c.loop-next.tokens
-    (tree (tree_of c.in_ok-clone.field-0) no_trees) = c.in_ok-append.ensures.ok in
-    added
-    ∙ ap (λ t. concat c.loop-next.tokens (tree (tree_of t) no_trees)) c.in_ok-clone.ensures.cases
-    ∙ ap (λ f. concat f (tree (tree_of c.next-item.result) no_trees)) c.loop-next.invariant
-    ∙ trees_of_take c.args.tokens.now c.trees-next-items.result.now c.loop-next.next-index
-    c.next-item.result c.loop-next-test.true c.next-item.is
+    rw (c.in_ok-append.ensures.ok, c.in_ok-clone.ensures.cases, c.loop-next.invariant)
+    (trees_of_take c.args.tokens.now c.trees-next-items.result.now c.loop-next.next-index
+    c.next-item.result c.loop-next-test.true c.next-item.is)
