@@ -1,7 +1,6 @@
 -- Streams compared tree by tree.
-use Rattle.std.proofs.Common.{◌≡◌, ◌≢◌, refl, false, List, [], ◌∷◌}
+use Rattle.std.proofs.Common.{◌≡◌, ◌≢◌, refl, false, List, [], ◌∷◌, length, arith}
 use Rattle.std.proofs.Math.Bool.{and-false}
-use Rattle.std.proofs.Common.{length, arith}
 use Rattle.tok_core.specs.declared.stream.TokenTree.{TokenTree}
 use Rattle.tok_core.specs.Seen.{trees_of}
 use Rattle.tok_core.specs.Spanless.{alike}

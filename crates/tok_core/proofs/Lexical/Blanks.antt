@@ -1,6 +1,6 @@
 -- White space and comments mean nothing, unless they are doc comments.
-use Rattle.std.proofs.Common.{◌≡◌, ◌∙◌, ◌+◌, ◌-◌, ◌<◌, ◌≤◌, refl, sym, inl, inr, ℕ, List, [], ◌∷◌, ◌++◌}
-use Rattle.std.proofs.Common.{ap, length, length-append, append_assoc, arith}
+use Rattle.std.proofs.Common.{◌≡◌, ◌∙◌, ◌+◌, ◌-◌, ◌<◌, ◌≤◌, refl, sym, inl, inr, ℕ, List, [], ◌∷◌}
+use Rattle.std.proofs.Common.{◌++◌, ap, length, length-append, append_assoc, arith}
 use Rattle.std.proofs.lemmas.List.{append-nil}
 use Rattle.std.proofs.lemmas.Str.{length-le-encodes}
 use Rattle.std.specs.Borrow.{Bor}
@@ -8,32 +8,30 @@ use Rattle.std.specs.Str.{chars, IsUtf8}
 use Rattle.tok_lexical.proofs.Heads.{spelled_one}
 use Rattle.tok_lexical.specs.Characters.{is_whitespace}
 use Rattle.tok_core.specs.Lexical.Items.{Item}
-use Rattle.tok_lexical.specs.Pieces.{HasPrefix, Skips, ReadsLongest}
+use Rattle.tok_lexical.specs.Pieces.{HasPrefix, Skips, ReadsLongest, IsLongestPrefix}
 use Rattle.tok_lexical.specs.Fits.{IsFirstFit, here, later}
 use Rattle.tok_core.specs.Lexical.Reading.{Cut, stop, piece}
 use Rattle.tok_lexical.specs.declared.rule.Mode.{Mode}
 use Rattle.tok_lexical.specs.declared.rule.Mode.TheVariants.{Plain}
 use Rattle.tok_lexical.proofs.Slashes.{decides_line, decides_block}
 use Rattle.tok_lexical.proofs.Fits.{fits_longest}
-use Rattle.tok_lexical.proofs.Longest.{takes_one}
+use Rattle.tok_lexical.proofs.Longest.{takes_one, list_all_push}
 use Rattle.tok_lexical.proofs.Texts.{cut_length}
 use Rattle.std.proofs.lemmas.Bool.{cases_eq, ne_eqb, and_parts}
 use Rattle.std.proofs.Math.Bool.{and-true}
-use Rattle.std.specs.Prelude.{true, false, not, ◌==◌, ◌||◌, Option, Some, None}
-use Rattle.std.specs.Prelude.{IfSome, encode_utf8, encode_utf8_all}
+use Rattle.std.specs.Prelude.{true, false, not, ◌==◌, ◌||◌, Option, Some, None, IfSome, encode_utf8}
+use Rattle.std.specs.Prelude.{encode_utf8_all}
 use Rattle.std.specs.List.{list_all}
 use Rattle.tok_core.specs.Private.Built.{IsBlank}
-use Rattle.tok_lexical.specs.Comments.{is_line_doc, is_block_doc, is_not_line_feed}
-use Rattle.tok_lexical.specs.Comments.{opens_line_doc, opens_block_doc, Closes, plain}
+use Rattle.tok_lexical.specs.Comments.{is_line_doc, is_block_doc, is_not_line_feed, opens_line_doc}
+use Rattle.tok_lexical.specs.Comments.{opens_block_doc, Closes, plain}
 use Rattle.tok_lexical.specs.Errors.{error_kind}
 use Rattle.tok_core.specs.Lexical.Meaning.{items}
 use Rattle.tok_lexical.specs.Widths.{width}
-use Rattle.tok_lexical.specs.Pieces.{IsLongestPrefix}
 use Rattle.tok_lexical.specs.Rules.{Spells, all_rules, rules_of}
 use Rattle.tok_lexical.specs.declared.rule.Rule.{Rule}
-use Rattle.tok_lexical.specs.declared.rule.Rule.TheVariants.{ByteOrderMark, Whitespace}
-use Rattle.tok_lexical.specs.declared.rule.Rule.TheVariants.{LineComment, BlockComment}
-use Rattle.tok_lexical.proofs.Longest.{list_all_push}
+use Rattle.tok_lexical.specs.declared.rule.Rule.TheVariants.{ByteOrderMark, Whitespace, LineComment}
+use Rattle.tok_lexical.specs.declared.rule.Rule.TheVariants.{BlockComment}
 
 -- what follows a line comment begins with a line feed
 ends_line : (text body after : List ℕ) (c : ℕ) → IsLongestPrefix (Spells LineComment) text

@@ -10,7 +10,7 @@ use Rattle.std.proofs.lemmas.Bool.{false≢true}
 use Rattle.std.proofs.lemmas.Str.{chars-nil, encodes-chars}
 use Rattle.tok_lexical.specs.Contents.{has_return}
 use Rattle.tok_core.specs.Forest.{Forest, no_trees}
-use Rattle.tok_lexical.specs.Fits.{NoneBefore}
+use Rattle.tok_lexical.specs.Fits.{NoneBefore, IsFirstFit}
 use Rattle.tok_core.specs.Building.{nothing}
 use Rattle.tok_core.specs.Private.Built.{EndsInOther, IsBlank, State, IsPaired, Holds, HoldsAll}
 use Rattle.tok_core.specs.Private.Built.{last, outer, Reached, Grows, Halts}
@@ -21,7 +21,6 @@ use Rattle.tok_core.specs.Lexical.Items.{Item, no_items}
 use Rattle.tok_lexical.specs.Errors.{error_kind}
 use Rattle.tok_core.specs.Lexical.Meaning.{items}
 use Rattle.tok_lexical.specs.Widths.{width}
-use Rattle.tok_lexical.specs.Fits.{IsFirstFit}
 use Rattle.tok_core.specs.Lexical.Reading.{Cut, stop, piece, ReadsFrom, RejectsAt, unclosed}
 use Rattle.tok_core.specs.Lexical.Reading.{IsRefusedFrom}
 use Rattle.tok_lexical.specs.Rules.{all_rules, rules_of}

@@ -1,19 +1,18 @@
 -- A text is cut to one list of items at most, or is refused in one way at most, and never both.
 use Rattle.std.proofs.Common.{◌≡◌, ◌∙◌, ◌+◌, ◌<◌, length, ℕ, inl, inr, List, [], ◌∷◌, ◌++◌, refl}
 use Rattle.std.proofs.Common.{sym, ap, arith, reverse}
-use Rattle.std.specs.Prelude.{None}
+use Rattle.std.specs.Prelude.{None, Bool, true, false}
 use Rattle.std.proofs.lemmas.List.{append-nil}
 use Rattle.tok_core.specs.Lexical.Items.{Item, IsForest, Opens, inside}
 use Rattle.tok_lexical.specs.Errors.{error_kind}
 use Rattle.tok_core.specs.Lexical.Meaning.{items, doc_items, opens_group}
 use Rattle.tok_lexical.specs.Widths.{bytes}
 use Rattle.tok_lexical.specs.Docs.{is_inner_doc, line_doc_text, block_doc_text}
-use Rattle.std.specs.Prelude.{Bool, true, false}
 use Rattle.std.proofs.lemmas.Bool.{false≢true}
 use Rattle.tok_lexical.specs.declared.delimiter.Delimiter.TheVariants.{Bracket}
 use Rattle.tok_lexical.specs.Fits.{IsFirstFit}
-use Rattle.tok_core.specs.Lexical.Reading.{Cut, stop, piece, RejectsAt, by_rule, unclosed}
-use Rattle.tok_core.specs.Lexical.Reading.{unopened, too_deep}
+use Rattle.tok_core.specs.Lexical.Reading.{Cut, stop, piece, RejectsAt, by_rule, unclosed, unopened}
+use Rattle.tok_core.specs.Lexical.Reading.{too_deep}
 use Rattle.tok_lexical.specs.declared.delimiter.Delimiter.{Delimiter}
 use Rattle.tok_lexical.specs.declared.lex_error_kind.LexErrorKind.{LexErrorKind}
 use Rattle.tok_lexical.specs.Rules.{rules_of}
@@ -21,8 +20,8 @@ use Rattle.tok_lexical.specs.declared.rule.Mode.{Mode}
 use Rattle.tok_lexical.specs.declared.rule.Rule.{Rule}
 use Rattle.tok_lexical.specs.declared.rule.Rule.TheVariants.{Opening, Closing, LineComment}
 use Rattle.tok_lexical.specs.declared.rule.Rule.TheVariants.{BlockComment}
-use Rattle.tok_core.proofs.Lexical.Runs.{Run, leaf_passed, first_opens, after_front}
-use Rattle.tok_core.proofs.Lexical.Runs.{one_left_open, first_closes}
+use Rattle.tok_core.proofs.Lexical.Runs.{Run, leaf_passed, first_opens, after_front, one_left_open}
+use Rattle.tok_core.proofs.Lexical.Runs.{first_closes}
 use Rattle.tok_lexical.proofs.Fits.{decides_unique, decides_nothing}
 use Rattle.tok_core.proofs.Lexical.Unique.{cuts}
 use Rattle.tok_core.proofs.Levels.{one_end}

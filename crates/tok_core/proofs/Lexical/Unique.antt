@@ -1,6 +1,5 @@
 -- A text is cut in one way only.
-use Rattle.std.proofs.Common.{◌≡◌, ℕ, ◌+◌, ◌⊎◌, inl, inr, List, ◌++◌, refl, sym}
-use Rattle.std.proofs.Common.{append_assoc}
+use Rattle.std.proofs.Common.{◌≡◌, ℕ, ◌+◌, ◌⊎◌, inl, inr, List, ◌++◌, refl, sym, append_assoc}
 use Rattle.tok_lexical.proofs.Fits.{decides_unique}
 use Rattle.tok_core.specs.Lexical.Items.{Item}
 use Rattle.tok_lexical.specs.Widths.{width}

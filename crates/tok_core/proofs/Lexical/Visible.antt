@@ -1,10 +1,9 @@
 -- The trees of a text without marks are all visible: nothing in it opens an invisible group.
-use Rattle.std.proofs.Common.{◌≡◌, ◌∙◌, ap, refl, sym, ℕ, Bool, true, false, List, []}
-use Rattle.std.proofs.Common.{◌∷◌, map}
+use Rattle.std.proofs.Common.{◌≡◌, ◌∙◌, ap, refl, sym, ℕ, Bool, true, false, List, [], ◌∷◌, map}
+use Rattle.std.proofs.Common.{arith}
 use Rattle.std.proofs.lemmas.Bool.{and_parts, false≢true}
 use Rattle.std.specs.List.{list_all}
 use Rattle.std.proofs.lemmas.List.Folds.{list_all-append}
-use Rattle.std.proofs.Common.{arith}
 use Rattle.tok_lexical.specs.Comments.{is_block_doc, is_line_doc}
 use Rattle.tok_lexical.specs.Docs.{block_doc_text, line_doc_text}
 use Rattle.tok_lexical.specs.Rules.{is_in, is_marked}

@@ -1,5 +1,5 @@
 use Rattle.std.proofs.Common.{◌≡◌, ◌≤◌, ◌&&◌, true, false, ◌+◌, drop, ap, sym, ◌∙◌, rules}
-use Rattle.tok_core.specs.Clear.{clear, is_invisible_group}
+use Rattle.tok_core.specs.Clear.{is_invisible_group}
 use Rattle.tok_core.specs.Seen.{tree_of, trees_of}
 use Rattle.tok_core.specs.Weight.{weight, tree_weight}
 use Rattle.tok_core.proofs.Clears.{clear_after, clear_edge, clear_torn, clear_later}
@@ -21,18 +21,16 @@ is_clear-returns-then-is_invisible_group t c =
     c.next-item.result c.loop-next-test.true c.next-item.is in
     let edge : (c.loop-next.joint && is_invisible_group (tree_of c.next-item.result)) ≡ true =
     search rules in
-    sym (ap clear (sym c.trees-next-items.ensures) ∙ sym c.loop-next.invariant
-    ∙ ap (clear_after c.loop-next.joint) here
-    ∙ clear_edge c.loop-next.joint (tree_of c.next-item.result) _ edge)
+    rw (← c.trees-next-items.ensures, ← c.loop-next.invariant, here)
+    (sym (clear_edge c.loop-next.joint (tree_of c.next-item.result) _ edge))
 
 pub is_clear-returns-then-not-is_tree_clear : goal.is_clear-returns-then-not-is_tree_clear
 is_clear-returns-then-not-is_tree_clear t c =
     let here = trees_of_drop c.trees-next-items.result.now c.loop-next.next-index
     c.next-item.result c.loop-next-test.true c.next-item.is in
-    sym (ap clear (sym c.trees-next-items.ensures) ∙ sym c.loop-next.invariant
-    ∙ ap (clear_after c.loop-next.joint) here
-    ∙ clear_torn c.loop-next.joint (tree_of c.next-item.result) _ (sym c.is_tree_clear.ensures
-    ∙ c.if-not-is_tree_clear.true))
+    rw (← c.trees-next-items.ensures, ← c.loop-next.invariant, here)
+    (sym (clear_torn c.loop-next.joint (tree_of c.next-item.result) _
+    (sym c.is_tree_clear.ensures ∙ c.if-not-is_tree_clear.true)))
 
 pub is_clear-loop-next-preserved : goal.is_clear-loop-next-preserved
 is_clear-loop-next-preserved t c =

@@ -1,7 +1,6 @@
-use Rattle.std.proofs.Common.{◌≡◌, ◌∙◌, sym, ap, subst}
+use Rattle.std.proofs.Common.{◌≡◌, ◌∙◌, sym, ap}
 use Rattle.tok_core.specs.Erase.{erase}
 use Rattle.tok_core.specs.Forest.{Tree, Forest, tree, no_trees}
-use Rattle.tok_core.specs.Private.Pending.{IsVisible}
 use Rattle.tok_leaves.specs.Spans.{bounds_delimiter, bounds_span}
 use Rattle.tok_core.specs.Seen.{tree_of, group_of}
 use Rattle.tok_core.proofs.SameVisible.{group_same, group_content, if_ok_follows}
@@ -17,9 +16,8 @@ same_tree-returns-then-same_edges t c =
     let r = c.in-Group-right.right in
     let left : tree_of c.args.left.now ≡ group_of l = ap tree_of c.in-Group.is in
     let right : tree_of c.args.right.now ≡ group_of r = ap tree_of c.in-Group-right.is in
-    let V : Tree → Type 0 = λ u. IsVisible u in
-    let seen_left : IsVisible (group_of l) = subst V left c.requires.left_visible in
-    let seen_right : IsVisible (group_of r) = subst V right c.requires.right_visible in
+    let seen_left = rw left at c.requires.left_visible in
+    let seen_right = rw right at c.requires.right_visible in
     let edges = (c.same_edges.ensures).0 c.if-same_edges.true in
     if_ok_follows c.same_visible.result (λ b h. (
       λ y. ap erased left

@@ -1,9 +1,7 @@
-use Rattle.std.proofs.Common.{◌≡◌, ◌-◌, length, subst, arith}
+use Rattle.std.proofs.Common.{◌≡◌, ◌-◌, length, arith}
 use Rattle.std.specs.Str.{chars}
-use Rattle.tok_lexical.specs.declared.rule.Mode.TheVariants.{Source}
 use Rattle.tok_lexical.specs.Widths.{bytes}
 use Rattle.tok_lexical.proofs.Texts.{cut_length}
-use Rattle.tok_core.specs.Lexical.Outcome.{FollowsFrom}
 use Rattle.tok_core.proofs.Lexical.Laws.{follows}
 use Rattle.tok_core.proofs.lexer.lex_source.Goals as goal
 
@@ -25,8 +23,6 @@ returns c =
       chars c.past_start-rest.result.now,
       cut.1,
       c.past_start-rest.ensures.begins,
-      subst (λ w. FollowsFrom w (Source c.args.edition) c.args.source
-          (chars c.past_start-rest.result.now) c.read_trees.result) same
-          (follows _ _ _ _ c.read_trees.result c.read_trees.ensures.reads
+      rw (← same) (follows _ _ _ _ c.read_trees.result c.read_trees.ensures.reads
           c.read_trees.ensures.refuses),
     )

@@ -1,6 +1,5 @@
-use Rattle.std.proofs.Common.{◌≤◌, ap, sym, ◌∙◌, rules}
-use Rattle.tok_core.specs.Seen.{tree_of, trees_of}
-use Rattle.tok_core.specs.Spanless.{alike}
+use Rattle.std.proofs.Common.{◌≤◌, sym, rules}
+use Rattle.tok_core.specs.Seen.{tree_of}
 use Rattle.tok_core.specs.Weight.{weight, tree_weight}
 use Rattle.tok_core.proofs.Comparisons.{alike_lengths}
 use Rattle.tok_core.proofs.Trees.{weight_here}
@@ -8,9 +7,8 @@ use Rattle.tok_core.proofs.tt.+alike.Goals as goal
 
 pub are_alike-returns-then-ours-theirs : goal.are_alike-returns-then-ours-theirs
 are_alike-returns-then-ours-theirs t c =
-    sym (ap (λ f. alike f c.args.right.now) (sym c.trees-ours.ensures)
-    ∙ ap (alike (trees_of c.trees-ours.result.now)) (sym c.trees-theirs.ensures)
-    ∙ alike_lengths c.trees-ours.result.now c.trees-theirs.result.now (search rules))
+    rw (← c.trees-ours.ensures, ← c.trees-theirs.ensures)
+    (sym (alike_lengths c.trees-ours.result.now c.trees-theirs.result.now (search rules)))
 
 pub are_alike-is_alike-requires : goal.are_alike-is_alike-requires
 are_alike-is_alike-requires t c =

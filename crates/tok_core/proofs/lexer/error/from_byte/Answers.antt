@@ -1,18 +1,11 @@
-use Rattle.std.proofs.Common.{◌≡◌, ℕ, List, ◌++◌, refl, subst, sym}
+use Rattle.std.proofs.Common.{refl}
 use Rattle.std.proofs.lemmas.Bool.{false≢true}
-use Rattle.std.specs.Prelude.{MatchOption}
-use Rattle.std.specs.Str.{chars}
-use Rattle.tok_lexical.specs.Widths.{bytes}
 use Rattle.tok_core.proofs.Lexical.Explained.{from_boundary, no_boundary}
 use Rattle.tok_core.proofs.lexer.error.from_byte.Goals as goal
 
 pub returns-in_err-after-clause-cut : goal.returns-in_err-after-clause-cut
 returns-in_err-after-clause-cut c =
-    subst (λ found. MatchOption found
-    ((front rest : List ℕ) → chars c.args.text.now ≡ front ++ rest → bytes front ≡ c.args.at → ⊥)
-    (λ after. (front : List ℕ) × (chars c.args.text.now ≡ front ++ chars after.now)
-    × (bytes front ≡ c.args.at)))
-    (sym c.from_residual.ensures)
+    rw c.from_residual.ensures
     (λ front rest. no_boundary c.args.text.now front rest c.args.at c.utf8.text
     (λ b. false≢true (c.in_err-after.ensures.variant.1 b)))
 

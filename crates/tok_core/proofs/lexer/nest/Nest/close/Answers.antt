@@ -1,12 +1,11 @@
-use Rattle.std.proofs.Common.{◌≡◌, ap, subst, refl, rules, arith}
-use Rattle.tok_core.specs.Private.Built.{Reached}
+use Rattle.std.proofs.Common.{◌≡◌, ap, refl, rules, arith}
 use Rattle.tok_core.proofs.Lexical.Nests.{grows_closed, reached_pop}
 use Rattle.tok_core.proofs.lexer.nest.Nest.close.Goals as goal
 
 pub source-span-requires : goal.source-span-requires
 source-span-requires g c =
     let before = (reached_pop c.pop.new.self.items (c.in-Some.opened, c.in-Some.start) c.args.at
-    (subst (λ w. Reached w c.args.at) c.in-Some.ensures.items c.requires.reached)).1 in
+    (rw c.in-Some.ensures.items at c.requires.reached)).1 in
     omega (arith, before, c.requires.order)
 
 pub returns-clause-ok : goal.returns-clause-ok
