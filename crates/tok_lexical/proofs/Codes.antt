@@ -97,14 +97,6 @@ too_large all rest value count s l n =
     let grown = rw s.value_is at (value_grows value rest) in
     elim (scalar_cases (hex_value all) n.scalar) [ inl e ↦ omega arith | inr e ↦ omega arith ]
 
-pub counts_all_digits : (all rest : List ℕ) (value count : ℕ) → Counts all rest value count →
-    rest ≡ [] → (hex_value all ≡ value) × (count_by is_hex all ≤ 6)
-counts_all_digits all rest value count s e =
-    let v : hex_value all ≡ value = rw (← s.value_is, e) refl in
-    let k : count_by is_hex all ≡ count = rw (← s.count_is, e) refl in
-    let f = s.few in
-    (v, omega arith)
-
 pub code_found : (text start second after rest digits : List ℕ) (first : ℕ) →
     text ≡ 123 ∷ start → start ≡ first ∷ second → is_digit first 16 ≡ true →
     Skips is_hex_or_underscore second digits after → after ≡ 125 ∷ rest →

@@ -1,6 +1,7 @@
 -- From the bits that a test of 16 bytes gives to how many of them pass, and how many fail.
+use Rattle.std.proofs.Math.Seq.{take-nil}
 use Rattle.std.proofs.Common.{◌≡◌, ◌∙◌, ℕ, ◌+◌, ◌<◌, ◌≤◌, ◌%◌, ◌^◌, Bool, not, List, [], ◌∷◌, map, length}
-use Rattle.std.proofs.Common.{get_or, sym, ap, arith, Fits, w8, replicate, true, inl, inr, refl, cond}
+use Rattle.std.proofs.Common.{ap, arith, Fits, w8, replicate, true, inl, inr, refl, cond}
 use Rattle.std.proofs.Common.{suc, zero, count_by, take, ◌++◌}
 use Rattle.std.specs.Prelude.{count_ones}
 use Rattle.std.specs.List.{prefix_len}
@@ -30,6 +31,7 @@ pub with_splat : (h : ℕ → ℕ → ℕ) (load : List ℕ) (n y : ℕ) → len
 with_splat h load n y long = zip2_splat {X = ℕ} {Y = ℕ} {Z = ℕ} h load n y long
 
 module _ (passes : ℕ → Bool) where
+  -- the bytes that fail
   abbrev fails : ℕ → Bool
   fails byte = not (passes byte)
 
@@ -37,17 +39,15 @@ module _ (passes : ℕ → Bool) where
       Each1 (Fits w8) load → map (λ x. top 7 (f x)) load ≡ map fails load
   each_lane f agrees [] fits = refl
   each_lane f agrees (x ∷ load) fits =
-      ap (λ b. b ∷ map (λ y. top 7 (f y)) load) (agrees x (fits.0).fits)
-      ∙ ap (λ bs. fails x ∷ bs) (each_lane f agrees load fits.1)
+      rw (agrees x (fits.0).fits, each_lane f agrees load fits.1) refl
 
   -- the bits of lanes, of which each is set just if its byte fails
   pub bits_of : (load lanes : List ℕ) (f : ℕ → ℕ) → length load ≡ 16 → Each1 (Fits w8) load →
       lanes ≡ map f load → ((x : ℕ) → x < 256 → top 7 (f x) ≡ fails x) →
       mask_l (map (top 7) lanes) % 2 ^ 64 ≡ failing_bits passes load
   bits_of load lanes f long fits same agrees =
-      ap (λ l. mask_l l % 2 ^ 64)
-      (ap (map (top 7)) same ∙ map-map (top 7) f load ∙ each_lane f agrees load fits)
-      ∙ mask_l-mod (map fails load) 64 (omega (arith, length-map load fails, long))
+      rw (same, map-map (top 7) f load, each_lane f agrees load fits)
+      (mask_l-mod (map fails load) 64 (omega (arith, length-map load fails, long)))
 
   -- the same, held against the test at each byte by computing
   pub bits_by_table : (load lanes : List ℕ) (f : ℕ → ℕ) → length load ≡ 16 →
@@ -101,7 +101,7 @@ module _ (passes : ℕ → Bool) where
           | inl early ↦ pass k from early
           | inr late ↦ r.pass k (omega arith) (omega arith)
         ];
-        stops = λ short. ap (λ i. passes (get_or bytes i 0)) (sym same) ∙ r.stops (omega arith);
+        stops = λ short. rw (← same) (r.stops (omega arith));
       }
 
   -- how many fail with those of one more load
@@ -109,20 +109,18 @@ module _ (passes : ℕ → Bool) where
       count ≡ count_by fails (take at bytes) → bits ≡ failing_bits passes (chunk at 16 bytes) →
       count + count_ones bits ≡ count_by fails (take (at + 16) bytes)
   counted_more bytes at count bits before same =
-      ap (λ n. n + count_ones bits) before
-      ∙ ap (λ n. count_by fails (take at bytes) + n)
-      (ap count_ones same ∙ ones-mask_l fails (chunk at 16 bytes))
-      ∙ sym (ap (count_by fails) (cut at bytes)
-      ∙ sum_by-append (λ x. cond (fails x) 1 0) (take at bytes) (chunk at 16 bytes))
+      rw (
+        before,
+        same,
+        cut at bytes,
+        ones-mask_l fails (chunk at 16 bytes),
+        sum_by-append (λ x. cond (fails x) 1 0) (take at bytes) (chunk at 16 bytes),
+      ) refl
     where
-      none : (m : ℕ) → take {A = ℕ} m [] ≡ []
-      none zero = refl
-      none (suc m) = refl
-
       next : (i : ℕ) → suc i + 16 ≡ suc (i + 16)
       next i = omega arith
 
       cut : (i : ℕ) (xs : List ℕ) → take (i + 16) xs ≡ take i xs ++ chunk i 16 xs
       cut zero xs = refl
-      cut (suc i) [] = ap (λ m. take m []) (next i) ∙ sym (none 16)
-      cut (suc i) (x ∷ xs) = ap (λ m. take m (x ∷ xs)) (next i) ∙ ap (λ rest. x ∷ rest) (cut i xs)
+      cut (suc i) [] = rw (take-nil, take-nil) refl
+      cut (suc i) (x ∷ xs) = rw (next i, cut i xs) refl

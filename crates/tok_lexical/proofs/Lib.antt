@@ -12,6 +12,7 @@ pub mod Fronts
 pub mod Heads
 pub mod Identifiers
 pub mod Lanes
+pub mod Leads
 pub mod Longest
 pub mod NestedComments
 pub mod QuotedFaults

@@ -1,8 +1,8 @@
 -- The steps of the loop over a nested comment.
 use Rattle.std.proofs.Common.{◌≡◌, ◌∙◌, ℕ, zero, suc, ◌+◌, ◌-◌, ◌<◌, List, [], ◌∷◌, ◌++◌, refl, sym}
-use Rattle.std.proofs.Common.{ap, arith, append_assoc, true, Bool, false}
+use Rattle.std.proofs.Common.{arith, append_assoc, true}
 use Rattle.std.proofs.lemmas.List.{append-nil, append_cancel_left}
-use Rattle.std.specs.Prelude.{◌==◌, ◌||◌, ◌&&◌, not, Option, Some, None}
+use Rattle.std.specs.Prelude.{Option, Some, None}
 use Rattle.std.specs.List.{list_all}
 use Rattle.std.specs.Borrow.{Bor}
 use Rattle.std.specs.Str.{chars}
@@ -10,15 +10,13 @@ use Rattle.tok_lexical.specs.Pieces.{HasPrefix, IsLongestPrefix, ReadsLongest, S
 use Rattle.tok_lexical.specs.Pieces.{is_neither}
 use Rattle.tok_lexical.specs.Comments.{IsPlain, Closes, done, nested, ended, plain, IsBlockComment}
 use Rattle.tok_lexical.specs.Comments.{is_not_line_feed}
+use Rattle.tok_lexical.proofs.Leads.{Leads, leads_run, leads_then}
+use Rattle.tok_lexical.proofs.Longest.{pass_weaker}
 
 -- a front of the start closes one comment just where what is left of it, at the rest, closes
 -- `depth`
-pub record Stands (start rest front : List ℕ) (depth : ℕ) : Type 0 where
-  pub cut : start ≡ front ++ rest
-  pub back : (tail after : List ℕ) → rest ≡ tail ++ after → Closes depth tail →
-      Closes 1 (front ++ tail)
-  pub forth : (tail after : List ℕ) → start ≡ tail ++ after → Closes 1 tail → (more : List ℕ)
-      × (tail ≡ front ++ more) × (rest ≡ more ++ after) × Closes depth more
+abbrev pub Stands : (start rest front : List ℕ) (depth : ℕ) → Type 0
+Stands start rest front depth = Leads (Closes 1) (Closes depth) start rest front
 
 heads : (a b : ℕ) (x y : List ℕ) → a ∷ x ≡ b ∷ y → a ≡ b
 heads a b x y e = cc
@@ -50,48 +48,43 @@ plain_more n tail after rest x p e (ended {text = text} c) =
     absurd (p.closes_none (text ++ after) e)
 plain_more n tail after rest x p e (plain {c = c} {text = text} q k) = (text, cc, cc, k)
 
--- one step of the loop, past a front of the rest
-step : (start rest front taken inner : List ℕ) (n m : ℕ) → Stands start rest front n →
-    rest ≡ taken ++ inner
-    → ((tail after : List ℕ) → inner ≡ tail ++ after → Closes m tail → Closes n (taken ++ tail))
-    → ((tail after : List ℕ) → taken ++ inner ≡ tail ++ after → Closes n tail → (more : List ℕ)
-    × (tail ≡ taken ++ more) × (inner ≡ more ++ after) × Closes m more)
-    → Stands start inner (front ++ taken) m
-step start rest front taken inner n m s e up down = record {
-  cut = cc (s.cut, append_assoc front taken inner);
-  back = λ tail after f c. rw (append_assoc front taken tail)
-      (s.back (taken ++ tail) after (cc (append_assoc taken tail after)) (up tail after f c));
-  forth = λ tail after f c.
-      let a = s.forth tail after f c in
-      let b = down a.0 after (sym e ∙ a.2) a.3 in
-      (b.0, cc (a.1, b.1, append_assoc front taken b.0), b.2, b.3);
-}
-
 pub step_open : (start rest inner front : List ℕ) (depth : ℕ) → 0 < depth →
     Stands start rest front depth → rest ≡ 47 ∷ 42 ∷ inner →
     Stands start inner (front ++ 47 ∷ 42 ∷ []) (depth + 1)
 step_open start rest inner front zero l s e = absurd (omega arith)
 step_open start rest inner front (suc n) l s e =
-    let d : suc (suc n) ≡ suc n + 1 = omega arith in
-    rw (← d)
-    (step start rest front (47 ∷ 42 ∷ []) inner (suc n) (suc (suc n)) s e
-    (λ tail after f c. nested c) (λ tail after f c. open_more n tail after inner f c))
+    let d : suc n + 1 ≡ suc (suc n) = omega arith in
+    let opens : Leads (Closes (suc n)) (Closes (suc (suc n))) rest inner (47 ∷ 42 ∷ []) = record {
+      cut = e;
+      back = λ tail after f c. nested c;
+      forth = λ tail after f c. open_more n tail after inner (sym e ∙ f) c;
+    } in
+    rw d (leads_then s opens)
 
 pub step_close : (start rest inner front : List ℕ) (depth : ℕ) → 0 < depth →
     Stands start rest front depth → rest ≡ 42 ∷ 47 ∷ inner →
     Stands start inner (front ++ 42 ∷ 47 ∷ []) (depth - 1)
 step_close start rest inner front zero l s e = absurd (omega arith)
 step_close start rest inner front (suc n) l s e =
-    let d : n ≡ suc n - 1 = omega arith in
-    rw (← d)
-    (step start rest front (42 ∷ 47 ∷ []) inner (suc n) n s e (λ tail after f c. ended c)
-    (λ tail after f c. close_more n tail after inner f c))
+    let d : suc n - 1 ≡ n = omega arith in
+    let ends : Leads (Closes (suc n)) (Closes n) rest inner (42 ∷ 47 ∷ []) = record {
+      cut = e;
+      back = λ tail after f c. ended c;
+      forth = λ tail after f c. close_more n tail after inner (sym e ∙ f) c;
+    } in
+    rw d (leads_then s ends)
 
-plain_front : (x : ℕ) (inner tail after : List ℕ) → IsPlain (x ∷ inner) → inner ≡ tail ++ after →
-    IsPlain (x ∷ tail)
-plain_front x inner tail after p f = record {
-  opens_none = λ more e. p.opens_none (more ++ after) (cc);
-  closes_none = λ more e. p.closes_none (more ++ after) (cc);
+-- past a character that begins no mark
+plain_one : (n x : ℕ) (inner : List ℕ) → IsPlain (x ∷ inner) →
+    Leads (Closes (suc n)) (Closes (suc n)) (x ∷ inner) inner (x ∷ [])
+plain_one n x inner p = record {
+  cut = refl;
+  back = λ tail after f c. plain
+      (record {
+        opens_none = λ more e. p.opens_none (more ++ after) (cc);
+        closes_none = λ more e. p.closes_none (more ++ after) (cc);
+      }) c;
+  forth = λ tail after f c. plain_more n tail after inner x p f c;
 }
 
 step_plain : (start rest inner front : List ℕ) (depth x : ℕ) → 0 < depth →
@@ -100,50 +93,34 @@ step_plain : (start rest inner front : List ℕ) (depth x : ℕ) → 0 < depth �
     Stands start inner (front ++ x ∷ []) depth
 step_plain start rest inner front zero x l s a b e = absurd (omega arith)
 step_plain start rest inner front (suc n) x l s a b e =
-    let p : IsPlain (x ∷ inner) = record {
+    let passed : Leads (Closes (suc n)) (Closes (suc n)) rest inner (x ∷ []) = rw e
+    (plain_one n x inner (record {
       opens_none = λ more f. a more (e ∙ f);
-      closes_none =
-          λ more f. b more (e ∙ f);
-    } in
-    step start rest front (x ∷ []) inner (suc n) (suc n) s e
-    (λ tail after f c. plain (plain_front x inner tail after p f) c)
-    (λ tail after f c. plain_more n tail after inner x p f c)
+      closes_none = λ more f. b more (e ∙ f);
+    })) in
+    leads_then s passed
+
+pub neither_of : (a b c : ℕ) → is_neither a b c ≡ true → (c ≡ a → ⊥) × (c ≡ b → ⊥)
+neither_of a b c h = grind arith
 
 pub neither_first : (a b c : ℕ) (cs : List ℕ) → list_all (is_neither a b) (c ∷ cs) ≡ true →
     (c ≡ a → ⊥) × (c ≡ b → ⊥) × (list_all (is_neither a b) cs ≡ true)
 neither_first a b c cs h = grind arith
 
--- a run of other characters
-step_run : (start rest inner front run : List ℕ) (depth x : ℕ) → 0 < depth →
-    Stands start rest front depth → rest ≡ x ∷ (run ++ inner) → (x ≡ 47 → ⊥) → (x ≡ 42 → ⊥) →
-    list_all (is_neither 42 47) run ≡ true → Stands start inner (front ++ x ∷ run) depth
-step_run start rest inner front [] depth x l s e a b h =
-    step_plain start rest inner front depth x l s (λ more f. a (cc)) (λ more f. b (cc)) e
-step_run start rest inner front (y ∷ run) depth x l s e a b h =
-    let one = step_plain start rest (y ∷ (run ++ inner)) front depth x l s
-    (λ more f. a (cc)) (λ more f. b (cc)) e in
-    let n = neither_first 42 47 y run h in
-    rw (← (append_assoc front (x ∷ []) (y ∷ run)))
-    (step_run start (y ∷ (run ++ inner)) inner (front ++ x ∷ []) run depth y l one refl n.1
-    n.0 n.2)
-
--- a run of others, of any length
-pub step_skip : (start rest inner front run : List ℕ) (depth : ℕ) → 0 < depth →
-    Stands start rest front depth → rest ≡ run ++ inner → list_all (is_neither 42 47) run
-    ≡ true → Stands start inner (front ++ run) depth
-step_skip start rest inner front [] depth l s e h =
-    rw (append-nil front, ← e) s
-step_skip start rest inner front (x ∷ run) depth l s e h =
-    let n = neither_first 42 47 x run h in
-    step_run start rest inner front run depth x l s e n.1 n.0 n.2
-
--- and one that was skipped
+-- past a run of other characters
 pub skip_on : (start rest inner : List ℕ) (depth : ℕ) → 0 < depth →
     (front : List ℕ) × Stands start rest front depth →
     (run : List ℕ) × Skips (is_neither 42 47) rest run inner →
     (front : List ℕ) × Stands start inner front depth
-skip_on start rest inner depth l (front, i) (run, s) =
-    (front ++ run, step_skip start rest inner front run depth l i s.cut s.pass)
+skip_on start rest inner zero l i s = absurd (omega arith)
+skip_on start rest inner (suc n) l (front, i) (run, s) =
+    let passed : Leads (Closes (suc n)) (Closes (suc n)) rest inner run = rw s.cut
+    (leads_run (Closes (suc n)) (is_neither 42 47)
+    (λ c more h. let other = neither_of 42 47 c h in plain_one n c more (record {
+      opens_none = λ after e. other.1 (cc);
+      closes_none = λ after e. other.0 (cc);
+    })) run inner s.pass) in
+    (front ++ run, leads_then i passed)
 
 -- such a run goes on to the end where neither follows it
 pub stops_end : (text : List ℕ) → Stops (is_neither 42 47) text →
@@ -225,22 +202,12 @@ tries_marked text mid None e misses = marked_none text mid e misses
 tries_marked text mid (Some rest) e (front, t) =
     (47 ∷ 42 ∷ front, takes_marked text mid (chars rest.now) front e t)
 
-line_all : (cs : List ℕ) → list_all (is_neither 10 10) cs ≡ list_all is_not_line_feed cs
-line_all [] = refl
-line_all (c ∷ cs) = ap (λ b. not b && list_all (is_neither 10 10) cs) (twice (c == 10))
-    ∙ ap (λ b. is_not_line_feed c && b) (line_all cs)
-  where
-    twice : (b : Bool) → b || b ≡ b
-    twice true = refl
-    twice false = refl
+no_line_feed : (c : ℕ) → is_neither 10 10 c ≡ is_not_line_feed c
+no_line_feed c = grind arith
 
 line_stops : (cs : List ℕ) → Stops (is_neither 10 10) cs → Stops is_not_line_feed cs
 line_stops [] s = tt
-line_stops (c ∷ cs) s = go (c == 10) s
-  where
-    go : (b : Bool) → not (b || b) ≡ false → not b ≡ false
-    go true s = refl
-    go false s = s
+line_stops (c ∷ cs) s = rw no_line_feed at s
 
 pub skips_line : (text rest : List ℕ) → (front : List ℕ) × Skips (is_neither 10 10) text front
     rest → (front : List ℕ) × Skips is_not_line_feed text front rest
@@ -248,8 +215,8 @@ skips_line text rest (front, s) = (
   front,
   record {
     cut = s.cut;
-    pass = sym (line_all front) ∙ s.pass;
-    stops =
-        line_stops rest s.stops;
+    pass = pass_weaker (is_neither 10 10) is_not_line_feed (λ c h. rw no_line_feed at h) front
+        s.pass;
+    stops = line_stops rest s.stops;
   },
 )

@@ -1,8 +1,7 @@
 -- What is between the quotes of a raw string, by the search for the quote that ends it.
 use Rattle.std.proofs.Common.{◌≡◌, ◌∙◌, ◌+◌, ◌-◌, ◌≤◌, ◌∷◌, ◌++◌, [], ap, arith, eqb-true, false}
 use Rattle.std.proofs.Common.{inl, length, List, refl, suc, sym, take, true, zero, ℕ}
-use Rattle.std.specs.Borrow.{Bor}
-use Rattle.std.specs.Prelude.{◌==◌, MatchOption, Option, encode_utf8_all}
+use Rattle.std.specs.Prelude.{◌==◌, encode_utf8_all}
 use Rattle.std.specs.Str.{chars, IsAscii, IsCharBoundary, IsUtf8}
 use Rattle.std.proofs.lemmas.Bool.{false≢true}
 use Rattle.std.proofs.lemmas.List.{append-nil, nil_from_length}
@@ -116,9 +115,3 @@ quotes_found text mid hashes start end s u few q none (body, cut, m) =
     let l = signs_length hashes u s.pass in
     quotes_read text mid (chars hashes) (chars start) body s q m (omega arith)
     (cc (none_left end none, append-nil body))
-
--- what a function that looks for the contents returns
-abbrev pub ReadsRawQuotes : List ℕ → Option (Bor (List ℕ)) → Type 0
-ReadsRawQuotes text answer =
-    MatchOption answer ((contents : List ℕ) → InRawQuotes text contents → ⊥)
-    (λ contents. InRawQuotes text (chars contents.now))

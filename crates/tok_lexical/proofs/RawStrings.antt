@@ -1,7 +1,7 @@
 -- Raw strings: the search for the quote that ends one.
 use Rattle.std.proofs.Common.{◌≡◌, ◌∙◌, ℕ, zero, suc, get_or, ◌≤◌, ◌<◌, inl, inr, List, [], ◌∷◌}
 use Rattle.std.proofs.Common.{◌++◌, length, refl, sym, ap, arith, append_assoc, length-append, true}
-use Rattle.std.proofs.lemmas.List.{append-nil, append_cancel_left}
+use Rattle.std.proofs.lemmas.List.{append_cancel_left}
 use Rattle.std.proofs.lemmas.Bool.{eqb-true}
 use Rattle.std.specs.Prelude.{◌==◌}
 use Rattle.std.specs.Str.{chars, IsUtf8}
@@ -11,7 +11,8 @@ use Rattle.std.specs.List.{list_all}
 use Rattle.tok_lexical.specs.Pieces.{HasPrefix, IsLongestPrefix, Skips, Stops, is_neither}
 use Rattle.tok_lexical.specs.Raw.{EndsAt, closed, further, IsRaw}
 use Rattle.tok_lexical.specs.Words.{IsSuffix}
-use Rattle.tok_lexical.proofs.NestedComments.{neither_first}
+use Rattle.tok_lexical.proofs.Leads.{Leads, leads_run, leads_then}
+use Rattle.tok_lexical.proofs.NestedComments.{neither_of}
 use Rattle.tok_lexical.proofs.Longest.{IsFree, fronts}
 use Rattle.tok_lexical.proofs.EscapedChars.{all_stop}
 use Rattle.tok_lexical.proofs.Digits.{all_stops, head_passes, tail_passes}
@@ -50,20 +51,8 @@ free_ends closing a b s t x y e = go s t x y e
         let w = go m n x y (cc) in (cc, w.1)
 
 -- no closing begins in this front of the start, before the rest
-pub record Stands (closing start rest front : List ℕ) : Type 0 where
-  pub cut : start ≡ front ++ rest
-  pub back : (tail after : List ℕ) → rest ≡ tail ++ after → EndsAt closing tail →
-      EndsAt closing (front ++ tail)
-  pub forth : (tail after : List ℕ) → start ≡ tail ++ after → EndsAt closing tail →
-      (more : List ℕ) × (tail ≡ front ++ more) × (rest ≡ more ++ after) × EndsAt closing more
-
-stands_first : (closing start : List ℕ) → Stands closing start start []
-stands_first closing start = record {
-  cut = refl;
-  back = λ tail after e m. m;
-  forth =
-      λ tail after e m. (tail, refl, e, m);
-}
+abbrev pub Stands : (closing start rest front : List ℕ) → Type 0
+Stands closing = Leads (EndsAt closing) (EndsAt closing)
 
 one_less : (closing inner more after : List ℕ) (c : ℕ) → c ∷ inner ≡ more ++ after →
     ((m : List ℕ) → c ∷ inner ≡ closing ++ m → ⊥) → EndsAt closing more → (less : List ℕ)
@@ -72,41 +61,35 @@ one_less closing inner more after c e misses closed = absurd (misses after e)
 one_less closing inner more after c e misses (further {text = text} n m) = (text, cc, cc, m)
 
 -- past a character where the closing doesn't begin
-stands_more : (closing start rest inner front : List ℕ) (c : ℕ) →
-    Stands closing start rest front → rest ≡ c ∷ inner →
-    ((m : List ℕ) → c ∷ inner ≡ closing ++ m → ⊥) → Stands closing start inner (front ++ c ∷ [])
-stands_more closing start rest inner front c s e misses = record {
-  cut = cc (s.cut, append_assoc front (c ∷ []) inner);
+passes_one : (closing inner : List ℕ) (c : ℕ) → ((m : List ℕ) → c ∷ inner ≡ closing ++ m → ⊥) →
+    Stands closing (c ∷ inner) inner (c ∷ [])
+passes_one closing inner c misses = record {
+  cut = refl;
   back = λ tail after f m.
-      let fails : (more : List ℕ) → c ∷ tail ≡ closing ++ more → ⊥ =
-      λ more g. misses (more ++ after) (cc (append_assoc closing more after)) in
-      rw (append_assoc front (c ∷ []) tail) (s.back (c ∷ tail) after (cc) (further fails m));
-  forth = λ tail after f m.
-      let a = s.forth tail after f m in
-      let b = one_less closing inner a.0 after c (sym e ∙ a.2) misses a.3 in
-      (b.0, cc (a.1, b.1, append_assoc front (c ∷ []) b.0), b.2, b.3);
+      further (λ more g. misses (more ++ after) (cc (append_assoc closing more after))) m;
+  forth = λ tail after f m. one_less closing inner tail after c f misses m;
 }
 
 -- past a run with no quote
 pub stands_run : (hashes start rest inner front run : List ℕ) →
-    Stands (34 ∷ hashes) start rest front → rest ≡ run ++ inner → list_all (is_neither 34 34) run
-    ≡ true → Stands (34 ∷ hashes) start inner (front ++ run)
-stands_run hashes start rest inner front [] s e h =
-    rw (append-nil front, ← e) s
-stands_run hashes start rest inner front (x ∷ run) s e h =
-    let n = neither_first 34 34 x run h in
-    let one = stands_more (34 ∷ hashes) start rest (run ++ inner) front x s e
-    (λ m g. n.0 (cc)) in
-    rw (← (append_assoc front (x ∷ []) run))
-    (stands_run hashes start (run ++ inner) inner (front ++ x ∷ []) run one refl n.2)
+    Stands (34 ∷ hashes) start rest front → Skips (is_neither 34 34) rest run inner →
+    Stands (34 ∷ hashes) start inner (front ++ run)
+stands_run hashes start rest inner front run s t =
+    let passed : Stands (34 ∷ hashes) rest inner run = rw t.cut
+    (leads_run (EndsAt (34 ∷ hashes)) (is_neither 34 34)
+    (λ c more h. passes_one (34 ∷ hashes) more c (λ m g. (neither_of 34 34 c h).0 (cc))) run inner
+    t.pass) in
+    leads_then s passed
 
 -- past a quote that the number signs don't follow
 pub stands_quote : (hashes start rest inner front : List ℕ) →
     Stands (34 ∷ hashes) start rest front → rest ≡ 34 ∷ inner →
     ((m : List ℕ) → inner ≡ hashes ++ m → ⊥) → Stands (34 ∷ hashes) start inner
     (front ++ 34 ∷ [])
-stands_quote hashes start rest inner front s e misses = stands_more (34 ∷ hashes) start rest
-    inner front 34 s e (λ m g. misses m (cc))
+stands_quote hashes start rest inner front s e misses =
+    let passed : Stands (34 ∷ hashes) rest inner (34 ∷ []) =
+    rw e (passes_one (34 ∷ hashes) inner 34 (λ m g. misses m (cc))) in
+    leads_then s passed
 
 pub stands_found : (hashes start rest inner end front : List ℕ) →
     Stands (34 ∷ hashes) start rest front → rest ≡ 34 ∷ inner → inner ≡ hashes ++ end →

@@ -125,11 +125,16 @@ module _ (pass : ℕ → Bool) (ascii : IsAsciiTest pass) where
       stops (c ∷ cs) h = h
 
   -- which its first byte tells
+  pub begins_as : (begins : List ℕ → Bool) → begins [] ≡ false →
+      ((c : ℕ) (rest : List ℕ) → begins (c ∷ rest) ≡ pass c) → (text : List ℕ) (x : ℕ) →
+      IsUtf8 text → 0 < length text → x ≡ get_or text 0 0 → pass x ≡ begins (chars text)
+  begins_as begins none first text x u some e = rw e (go (chars text) (encodes-chars text u))
+    where
+      go : (cs : List ℕ) → encode_utf8_all cs ≡ text → pass (get_or text 0 0) ≡ begins cs
+      go [] f = absurd (let l = ap length f in omega arith)
+      go (c ∷ cs) f = rw (first c cs) (first_byte text (encode_utf8_all cs) c (sym f) some)
+
   pub passes_first : (text : List ℕ) → IsUtf8 text → 0 < length text →
       pass (get_or text 0 0) ≡ begins_passing pass (chars text)
-  passes_first text u some = go (chars text) (encodes-chars text u)
-    where
-      go : (cs : List ℕ) → encode_utf8_all cs ≡ text →
-          pass (get_or text 0 0) ≡ begins_passing pass cs
-      go [] e = absurd (let l = ap length e in omega arith)
-      go (c ∷ cs) e = first_byte text (encode_utf8_all cs) c (sym e) some
+  passes_first text u some =
+      begins_as (begins_passing pass) refl (λ c rest. refl) text (get_or text 0 0) u some refl

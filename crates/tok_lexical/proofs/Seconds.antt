@@ -81,10 +81,6 @@ raw_opens : (rest hashes more : List ℕ) → rest ≡ hashes ++ 34 ∷ more →
     list_all (λ c. c == 35) hashes ≡ true → opens_literal rest ≡ true
 raw_opens rest hashes more e a = let opens = hashes_open hashes more a in rw e (grind arith)
 
-letter_opens : (rest hashes more : List ℕ) → rest ≡ 114 ∷ (hashes ++ 34 ∷ more) →
-    list_all (λ c. c == 35) hashes ≡ true → opens_literal rest ≡ true
-letter_opens rest hashes more e a = rw e (hashes_open hashes more a)
-
 -- a rule of a literal with a prefix, or of what begins as one
 abbrev is_literal : Rule → Bool
 is_literal ByteChar = true

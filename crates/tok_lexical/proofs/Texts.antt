@@ -4,17 +4,16 @@ use Rattle.std.proofs.Common.{take, drop, get_or, sym, ap, length-append, arith,
 use Rattle.std.proofs.Common.{refl}
 use Rattle.std.specs.Str.{chars, IsUtf8, IsAscii, IsCharBoundary}
 use Rattle.std.specs.Char.{is_ascii_graphic}
-use Rattle.std.specs.Prelude.{Bool, encode_utf8, encode_utf8_all, true, false, nat_lt, nat_le}
-use Rattle.std.proofs.lemmas.Bool.{ltb-true, false_from_ne_true}
-use Rattle.std.proofs.lemmas.Bool.Decides.{nat_tests}
+use Rattle.std.specs.Prelude.{Bool, encode_utf8_all, true, false, nat_le}
+use Rattle.std.proofs.lemmas.Bool.{le-leb, false_from_ne_true}
+use Rattle.tok_lexical.proofs.Runs.{ascii_test, begins_as}
 use Rattle.tok_lexical.specs.Private.Fronts.{begins_visibly, begins_beyond_ascii}
 use Rattle.tok_lexical.specs.Widths.{width, is_group_mark}
 use Rattle.tok_lexical.specs.declared.rule.Rule.{Rule}
 use Rattle.std.proofs.lemmas.Str.{encodes-append, encodes-chars, chars-nil, chars-append}
-use Rattle.std.proofs.lemmas.Str.{chars-IsAscii, byte_from_char, char_from_byte, length-encode}
-use Rattle.std.proofs.lemmas.Str.{len_utf8_bounds, IsCharBoundary-at_seam, IsUtf8-take}
-use Rattle.std.proofs.lemmas.Str.{IsUtf8-from_ascii}
-use Rattle.std.proofs.lemmas.List.{take_at, append_cancel_right}
+use Rattle.std.proofs.lemmas.Str.{chars-IsAscii, byte_from_char, IsCharBoundary-at_seam}
+use Rattle.std.proofs.lemmas.Str.{IsUtf8-take, IsUtf8-from_ascii}
+use Rattle.std.proofs.lemmas.List.{nil_from_length, take_at, append_cancel_right}
 
 -- the bytes of the front and of the rest
 cut_bytes : (text rest front : List ℕ) → IsUtf8 text → IsUtf8 rest → chars text ≡ front
@@ -90,81 +89,40 @@ pub ascii_misses : (text : List ℕ) (c : ℕ) → IsUtf8 text → c < 128 → (
 ascii_misses text c u l other more e =
     other (byte_from_char text (encode_utf8_all more) c (cc (encodes-chars text u)) l)
 
+-- nothing is left
+pub nothing_begins : (text : List ℕ) → length text ≡ 0 → chars text ≡ []
+nothing_begins text z = rw (nil_from_length text z) chars-nil
+
 pub nothing_first : (text : List ℕ) (c : ℕ) → length text ≡ 0 → (more : List ℕ) →
     chars text ≡ c ∷ more → ⊥
-nothing_first [] c z more e = absurd (omega (arith, ap length (sym chars-nil ∙ e)))
-nothing_first (x ∷ text) c z more e = absurd (omega arith)
-
--- the first byte of a text, where it or the first character is ASCII
-pub first_byte : (p : ℕ → Bool) → ((x : ℕ) → p x ≡ true → x < 128) →
-    (text rest : List ℕ) (c : ℕ) → IsUtf8 text → chars text ≡ c ∷ rest → p (get_or text 0 0)
-    ≡ p c
-first_byte p low text rest c u e = go (p (get_or text 0 0)) (p c) refl refl
-  where
-    whole : text ≡ encode_utf8 c ++ encode_utf8_all rest
-    whole = sym (encodes-chars text u) ∙ ap encode_utf8_all e
-
-    some : 0 < length text
-    some = let l = ap length whole ∙ length-append (encode_utf8 c) (encode_utf8_all rest) in
-        let w = length-encode c in let b = (len_utf8_bounds c).0 in omega arith
-
-    go : (a b : Bool) → p (get_or text 0 0) ≡ a → p c ≡ b → p (get_or text 0 0) ≡ p c
-    go true b f g =
-        ap p (sym (char_from_byte text (encode_utf8_all rest) c whole (low (get_or text 0 0) f)
-        some))
-    go false true f g = ap p (byte_from_char text (encode_utf8_all rest) c whole (low c g))
-    go false false f g = f ∙ sym g
+nothing_first text c z more e = cc (nothing_begins text z)
 
 visible_low : (x : ℕ) → is_ascii_graphic x ≡ true → x < 128
 visible_low x h = let l : x ≤ 126 = search (rules, tests) in omega arith
 
 pub visible_first : (text : List ℕ) (x : ℕ) → IsUtf8 text → 0 < length text →
     x ≡ get_or text 0 0 → is_ascii_graphic x ≡ begins_visibly (chars text)
-visible_first text x u l e = go (chars text) refl
-  where
-    go : (cs : List ℕ) → chars text ≡ cs → is_ascii_graphic x ≡ begins_visibly cs
-    go [] f = absurd (omega (arith, ap length (sym (encodes-chars text u) ∙ ap encode_utf8_all f)))
-    go (c ∷ cs) f = rw e (first_byte is_ascii_graphic visible_low text cs c u f)
+visible_first =
+    begins_as is_ascii_graphic (ascii_test is_ascii_graphic visible_low) begins_visibly refl
+    (λ c rest. refl)
 
 pub nothing_visible : (text : List ℕ) → length text ≡ 0 → begins_visibly (chars text) ≡ false
-nothing_visible [] z = ap begins_visibly chars-nil
-nothing_visible (x ∷ text) z = absurd (omega arith)
-
-ascii_low : (x : ℕ) → nat_lt x 128 ≡ true → x < 128
-ascii_low x h = ltb-true x 128 h
-
--- two characters, both ASCII or both beyond
-same_side : (a b : ℕ) → nat_lt a 128 ≡ nat_lt b 128 → nat_le 128 a ≡ nat_le 128 b
-same_side a b e = grind (arith, nat_tests)
+nothing_visible text z = rw (nothing_begins text z) refl
 
 pub beyond_first : (text : List ℕ) (x : ℕ) → IsUtf8 text → 0 < length text →
     x ≡ get_or text 0 0 → nat_le 128 x ≡ begins_beyond_ascii (chars text)
-beyond_first text x u l e = go (chars text) refl
-  where
-    go : (cs : List ℕ) → chars text ≡ cs → nat_le 128 x ≡ begins_beyond_ascii cs
-    go [] f = absurd (omega (arith, ap length (sym (encodes-chars text u) ∙ ap encode_utf8_all f)))
-    go (c ∷ cs) f = rw e (same_side (get_or text 0 0) c
-        (first_byte (λ d. nat_lt d 128) ascii_low text cs c u f))
+beyond_first =
+    begins_as (nat_le 128) (λ x h. le-leb 128 x h) begins_beyond_ascii refl (λ c rest. refl)
 
 pub nothing_beyond : (text : List ℕ) → length text ≡ 0 → begins_beyond_ascii (chars text) ≡ false
-nothing_beyond [] z = ap begins_beyond_ascii chars-nil
-nothing_beyond (x ∷ text) z = absurd (omega arith)
+nothing_beyond text z = rw (nothing_begins text z) refl
 
 -- a test of the first byte that only ASCII passes says the same of the first character
 module _ (is : ℕ → Bool) (low : (c : ℕ) → is c ≡ true → c < 128) where
   pub begins_by : (begins : List ℕ → Bool) → begins [] ≡ false →
       ((c : ℕ) (rest : List ℕ) → begins (c ∷ rest) ≡ is c) → (text : List ℕ) (x : ℕ) →
       IsUtf8 text → 0 < length text → x ≡ get_or text 0 0 → is x ≡ begins (chars text)
-  begins_by begins none first text x u l e = go (chars text) refl
-    where
-      go : (cs : List ℕ) → chars text ≡ cs → is x ≡ begins cs
-      go [] f =
-          absurd (omega (arith, ap length (sym (encodes-chars text u) ∙ ap encode_utf8_all f)))
-      go (c ∷ cs) f = rw (e, first c cs) (first_byte is low text cs c u f)
+  begins_by = begins_as is (ascii_test is low)
 
   pub beyond_fails : (x : ℕ) → (x < 128 → ⊥) → is x ≡ false
   beyond_fails x beyond = false_from_ne_true (is x) (λ h. beyond (low x h))
-
-pub nothing_begins : (text : List ℕ) → length text ≡ 0 → chars text ≡ []
-nothing_begins [] z = chars-nil
-nothing_begins (x ∷ text) z = absurd (omega arith)

@@ -1,6 +1,4 @@
-use Rattle.std.proofs.Common.{◌∙◌, [], refl, sym, subst}
-use Rattle.tok_lexical.specs.Characters.{is_whitespace}
-use Rattle.tok_lexical.specs.Pieces.{Stops}
+use Rattle.std.proofs.Common.{◌∙◌, [], refl, sym}
 use Rattle.tok_lexical.proofs.classes.past_beyond_ascii.Goals as goal
 
 pub returns-in_default-clause-skips : goal.returns-in_default-clause-skips
@@ -9,9 +7,7 @@ returns-in_default-clause-skips c = (
   record {
     cut = refl;
     pass = refl;
-    stops =
-        subst (Stops is_whitespace) (sym c.in-Some.ensures.chars)
-        (sym c.is_whitespace.ensures ∙ c.if-is_whitespace.false);
+    stops = rw c.in-Some.ensures.chars (sym c.is_whitespace.ensures ∙ c.if-is_whitespace.false);
   },
 )
 
@@ -21,6 +17,6 @@ returns-in_default-2-clause-skips c = (
   record {
     cut = refl;
     pass = refl;
-    stops = subst (Stops is_whitespace) (sym (rw c.in_default.is at c.next_char.ensures.chars)) tt;
+    stops = rw (rw c.in_default.is at c.next_char.ensures.chars) tt;
   },
 )

@@ -1,13 +1,9 @@
-use Rattle.std.proofs.Common.{◌∙◌, ◌∷◌, sym, subst}
-use Rattle.std.specs.Str.{chars}
-use Rattle.tok_lexical.specs.Private.Finds.{ReadsPrefix}
-use Rattle.tok_lexical.specs.Strings.{IsCode, NamesChar}
+use Rattle.std.proofs.Common.{◌∙◌, ◌∷◌, sym}
 use Rattle.tok_lexical.proofs.Codes.{code_open, code_found, code_unnamed, code_front}
 use Rattle.tok_lexical.proofs.escapes.past_code.Goals as goal
 
 pub returns-in_err-rest-clause-finds : goal.returns-in_err-rest-clause-finds
-returns-in_err-rest-clause-finds c = subst (ReadsPrefix IsCode (chars c.args.text.now))
-    (sym c.from_residual-in_err-rest.ensures)
+returns-in_err-rest-clause-finds c = rw c.from_residual-in_err-rest.ensures
     (code_open _ _ _ _ _ c.in_ok-first.first c.in_ok-start.ensures.chars
     c.in_ok-first.ensures.chars c.past_digits.ensures.skips.1 c.in_err-rest.ensures.chars)
 
@@ -25,7 +21,7 @@ returns-then-names_char-clause-finds c =
     (code_front _ _ _ _ c.in_ok-first.first c.in_ok-first.ensures.chars s) in
     code_found _ _ _ _ _ _ c.in_ok-first.first c.in_ok-start.ensures.chars
     c.in_ok-first.ensures.chars (sym c.is_digit.ensures.value ∙ c.if-not-is_digit.false) s
-    c.in_ok-rest.ensures.chars (subst NamesChar e c.if-names_char.ensures)
+    c.in_ok-rest.ensures.chars (rw e at c.if-names_char.ensures)
 
 pub returns-else-names_char-clause-finds : goal.returns-else-names_char-clause-finds
 returns-else-names_char-clause-finds c =

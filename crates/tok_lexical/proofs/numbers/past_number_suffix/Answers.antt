@@ -1,7 +1,4 @@
-use Rattle.std.proofs.Common.{◌∙◌, ℕ, List, [], sym, subst}
-use Rattle.std.specs.Str.{chars}
-use Rattle.tok_lexical.specs.Pieces.{IsLongestPrefix}
-use Rattle.tok_lexical.specs.Numbers.{IsNumberSuffix}
+use Rattle.std.proofs.Common.{◌∙◌, [], sym}
 use Rattle.tok_lexical.proofs.Digits.{takes_no_suffix, no_suffix_start, no_suffix_word}
 use Rattle.tok_lexical.proofs.Digits.{takes_number_suffix}
 use Rattle.tok_lexical.proofs.Identifiers.{no_name}
@@ -24,8 +21,7 @@ returns-then-not-starts_number_suffix c = (
 )
 
 pub returns : goal.returns
-returns c = subst (λ rest. (suffix : List ℕ) × IsLongestPrefix (IsNumberSuffix c.args.radix)
-    (chars c.args.text.now) suffix (chars rest.now)) (sym c.unwrap_or.ensures)
+returns c = rw c.unwrap_or.ensures
     (takes_number_suffix c.args.radix c.in-Some.first _ c.args.text c.past_identifier.result
     c.in-Some.ensures.chars (sym c.starts_number_suffix.ensures
     ∙ c.if-not-starts_number_suffix.false) c.past_identifier.ensures.tries)

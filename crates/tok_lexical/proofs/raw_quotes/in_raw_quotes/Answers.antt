@@ -1,9 +1,6 @@
-use Rattle.std.proofs.Common.{◌∙◌, ◌<◌, arith, length, subst, sym}
-use Rattle.std.specs.Str.{chars}
-use Rattle.tok_lexical.specs.RawQuotes.{InRawQuotes}
+use Rattle.std.proofs.Common.{◌∙◌, arith, sym}
 use Rattle.tok_lexical.proofs.RawQuotes.{closing_boundary, closing_length, contents_chars}
-use Rattle.tok_lexical.proofs.RawQuotes.{quotes_end, quotes_found, quotes_raw, ReadsRawQuotes}
-use Rattle.tok_lexical.proofs.RawQuotes.{some_left}
+use Rattle.tok_lexical.proofs.RawQuotes.{quotes_end, quotes_found, quotes_raw, some_left}
 use Rattle.tok_lexical.proofs.RawStrings.{raw_long, raw_open, raw_unquoted, signs, signs_length}
 use Rattle.tok_lexical.proofs.raw_quotes.in_raw_quotes.Goals as goal
 
@@ -14,8 +11,7 @@ overflow_sub-start c =
     c.in_ok-end.end.now s c.front_of-hashes.utf8 (omega (arith, c.if-hashes-gt255.false))
     c.in_ok-start.ensures.chars (sym c.is_empty.ensures ∙ c.if-not-is_empty.false)
     c.in_ok-end.ensures.finds in
-    let l = closing_length _ _ contents c.in_ok-start.ensures.utf8 c.front_of-hashes.utf8 e in
-    omega arith
+    omega (arith, closing_length _ _ contents c.in_ok-start.ensures.utf8 c.front_of-hashes.utf8 e)
 
 pub overflow_sub-start-2 : goal.overflow_sub-start-2
 overflow_sub-start-2 c =
@@ -24,8 +20,7 @@ overflow_sub-start-2 c =
     c.in_ok-end.end.now s c.front_of-hashes.utf8 (omega (arith, c.if-hashes-gt255.false))
     c.in_ok-start.ensures.chars (sym c.is_empty.ensures ∙ c.if-not-is_empty.false)
     c.in_ok-end.ensures.finds in
-    let l = closing_length _ _ contents c.in_ok-start.ensures.utf8 c.front_of-hashes.utf8 e in
-    omega arith
+    omega (arith, closing_length _ _ contents c.in_ok-start.ensures.utf8 c.front_of-hashes.utf8 e)
 
 pub split_at-requires : goal.split_at-requires
 split_at-requires c =
@@ -45,26 +40,25 @@ returns-clause-reads c =
     c.in_ok-end.ensures.finds in
     let same = contents_chars _ _ contents c.in_ok-start.ensures.utf8 c.front_of-hashes.utf8 e _
     c.split_at.ensures.front in
-    subst (InRawQuotes (chars c.args.text.now)) (sym same) read
+    rw same read
 
 pub returns-then-hashes-gt255-clause-reads : goal.returns-then-hashes-gt255-clause-reads
 returns-then-hashes-gt255-clause-reads c =
     let s = signs _ _ _ c.past_number_signs-quote.ensures c.front_of-hashes.ensures.is in
     let l = signs_length _ c.front_of-hashes.utf8 s.pass in
-    let many : 255 < length (chars c.front_of-hashes.result.now) =
-    let m = c.if-hashes-gt255.true in omega arith in
-    λ contents h. raw_long _ _ _ s many (quotes_raw _ contents h)
+    λ contents h.
+    raw_long _ _ _ s (omega (arith, c.if-hashes-gt255.true)) (quotes_raw _ contents h)
 
 pub returns-in_err-start-clause-reads : goal.returns-in_err-start-clause-reads
 returns-in_err-start-clause-reads c =
     let s = signs _ _ _ c.past_number_signs-quote.ensures c.front_of-hashes.ensures.is in
-    subst (ReadsRawQuotes (chars c.args.text.now)) (sym c.from_residual.ensures)
+    rw c.from_residual.ensures
     (λ contents h. raw_unquoted _ _ _ s c.in_err-start.ensures.chars (quotes_raw _ contents h))
 
 pub returns-in_err-end-clause-reads : goal.returns-in_err-end-clause-reads
 returns-in_err-end-clause-reads c =
     let s = signs _ _ _ c.past_number_signs-quote.ensures c.front_of-hashes.ensures.is in
-    subst (ReadsRawQuotes (chars c.args.text.now)) (sym c.from_residual-in_err-end.ensures)
+    rw c.from_residual-in_err-end.ensures
     (λ contents h. raw_open _ _ _ s _ c.in_ok-start.ensures.chars c.in_err-end.ensures.finds
     (quotes_raw _ contents h))
 

@@ -1,4 +1,4 @@
-use Rattle.std.proofs.Common.{◌≡◌, ◌∙◌, ◌∷◌, ap, refl, sym, subst, false, rules, tests}
+use Rattle.std.proofs.Common.{◌≡◌, ◌∙◌, ◌∷◌, ap, refl, sym, false, rules, tests}
 use Rattle.std.proofs.lemmas.Bool.{eqb-true}
 use Rattle.std.specs.Str.{chars}
 use Rattle.tok_lexical.proofs.First.{decides_at, none_more, none_at_all, none_fits}
@@ -6,7 +6,6 @@ use Rattle.tok_lexical.proofs.First.{decides_listed, decides_letter, decides_one
 use Rattle.tok_lexical.proofs.First.{decides_line, decides_quote, decides_string, told}
 use Rattle.tok_lexical.proofs.First.{fits_behind, last_identifier, last_punct, last_other}
 use Rattle.tok_lexical.proofs.Slashes.{decides_alone}
-use Rattle.tok_lexical.specs.Fits.{ReadsByRules}
 use Rattle.tok_lexical.specs.Private.Starts.{tells}
 use Rattle.tok_lexical.specs.Rules.{last_rules}
 use Rattle.tok_lexical.specs.declared.rule.Rule.TheVariants.{ByteOrderMark}
@@ -14,8 +13,8 @@ use Rattle.tok_lexical.specs.declared.start.Start.TheVariants as start
 use Rattle.tok_lexical.proofs.rule.first_rule.Goals as goal
 
 pub returns-in_err-first-clause-tries : goal.returns-in_err-first-clause-tries
-returns-in_err-first-clause-tries c = subst (ReadsByRules _ _) (sym c.from_residual.ensures)
-    (none_fits _ _ _ c.in_err-first.ensures.chars)
+returns-in_err-first-clause-tries c =
+    rw c.from_residual.ensures (none_fits _ _ _ c.in_err-first.ensures.chars)
 
 pub returns-in-Letter-clause-tries : goal.returns-in-Letter-clause-tries
 returns-in-Letter-clause-tries c = decides_letter c.args.mode c.in_ok-first.first _ _

@@ -1,4 +1,4 @@
-use Rattle.std.proofs.Common.{◌≡◌, ◌∙◌, ap, sym, true}
+use Rattle.std.proofs.Common.{◌≡◌, ◌∙◌, sym, true}
 use Rattle.std.specs.Str.{chars}
 use Rattle.tok_lexical.specs.Starts.{begins_letter}
 use Rattle.tok_lexical.proofs.First.{decides_letter}
@@ -11,7 +11,6 @@ returns-clause-told c =
     sym c.begins_letter.ensures ∙ c.if-not-begins_letter.false in (
       told,
       λ mode. decides_letter mode c.in_ok-rest.field-0-0 _ _ c.in_ok-rest.ensures.chars _
-          (letter_starts c.in_ok-rest.field-0-0
-          (sym (ap begins_letter c.in_ok-rest.ensures.chars) ∙ told))
+          (letter_starts c.in_ok-rest.field-0-0 (rw c.in_ok-rest.ensures.chars at told))
           c.past_continues.ensures,
     )

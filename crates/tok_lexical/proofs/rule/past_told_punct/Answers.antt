@@ -1,4 +1,4 @@
-use Rattle.std.proofs.Common.{◌≡◌, ◌∙◌, ap, sym, true, refl}
+use Rattle.std.proofs.Common.{◌≡◌, ◌∙◌, sym, true, refl}
 use Rattle.std.specs.Str.{chars}
 use Rattle.tok_lexical.specs.Starts.{begins_punct}
 use Rattle.tok_lexical.specs.declared.start.Start.TheVariants as start
@@ -13,6 +13,5 @@ returns-clause-told c =
       told,
       λ mode. decides_one mode c.in_ok-rest.field-0-0 _ _ c.in_ok-rest.ensures.chars
           start.Punct refl
-          (punct_starts c.in_ok-rest.field-0-0
-          (sym (ap begins_punct c.in_ok-rest.ensures.chars) ∙ told)),
+          (punct_starts c.in_ok-rest.field-0-0 (rw c.in_ok-rest.ensures.chars at told)),
     )

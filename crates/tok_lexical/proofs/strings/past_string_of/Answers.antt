@@ -1,7 +1,4 @@
-use Rattle.std.proofs.Common.{[], subst, sym}
-use Rattle.std.specs.Str.{chars}
-use Rattle.tok_lexical.specs.Pieces.{ReadsLongest}
-use Rattle.tok_lexical.specs.Strings.{IsString}
+use Rattle.std.proofs.Common.{[]}
 use Rattle.tok_lexical.proofs.Units.{reaches_first, reaches_units, takes_string, open_string}
 use Rattle.tok_lexical.proofs.strings.past_string_of.Goals as goal
 
@@ -32,6 +29,6 @@ returns-clause-tries c = let i = c.loop-after.invariant.1 in (
 
 pub returns-in_err-end-clause-tries : goal.returns-in_err-end-clause-tries
 returns-in_err-end-clause-tries c = let i = c.loop-after.invariant.1 in
-    subst (ReadsLongest (IsString c.args.contents) (chars c.args.text.now))
-    (sym c.from_residual-in_err-end.ensures) (open_string c.args.contents _ i.0 _ i.1 i.2 i.3
-    c.in_default.ensures.finds c.in_err-end.ensures.chars)
+    rw c.from_residual-in_err-end.ensures
+    (open_string c.args.contents _ i.0 _ i.1 i.2 i.3 c.in_default.ensures.finds
+    c.in_err-end.ensures.chars)

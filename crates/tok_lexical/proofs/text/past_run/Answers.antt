@@ -1,5 +1,3 @@
-use Rattle.std.proofs.Common.{length, subst}
-use Rattle.tok_lexical.specs.Private.Scans.{IsRun}
 use Rattle.tok_lexical.proofs.Runs.{run_boundary, skips_run}
 use Rattle.tok_lexical.proofs.text.past_run.Goals as goal
 
@@ -7,8 +5,7 @@ pub split_at-requires : goal.split_at-requires
 split_at-requires g c =
     let passes = g.S.ByteTest.passes c.args.test.now in
     run_boundary passes c.requires.ascii _ _ c.utf8.text
-    (subst (λ w. IsRun passes w 0 (length w) c.front_run.result) c.as_bytes.ensures.value
-    c.front_run.ensures)
+    (rw c.as_bytes.ensures.value at c.front_run.ensures)
 
 pub returns-clause-skips : goal.returns-clause-skips
 returns-clause-skips g c =
@@ -17,6 +14,5 @@ returns-clause-skips g c =
       _,
       skips_run passes c.requires.ascii _ _ _ _ c.utf8.text parts.front parts.back parts.front_len
           parts.back_len
-          (subst (λ w. IsRun passes w 0 (length w) c.front_run.result) c.as_bytes.ensures.value
-          c.front_run.ensures),
+          (rw c.as_bytes.ensures.value at c.front_run.ensures),
     )
