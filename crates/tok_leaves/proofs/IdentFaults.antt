@@ -5,7 +5,7 @@ use Rattle.std.proofs.Common.{Some, sym, tests}
 use Rattle.std.specs.Char.{is_ascii_alphabetic, is_ascii_digit}
 use Rattle.std.specs.List.{list_all}
 use Rattle.std.specs.Prelude.{◌==◌, ◌⊎◌, Option, cond, encode_utf8, encode_utf8_all, not}
-use Rattle.std.proofs.lemmas.Bool.{cond-true, cond-false, false≢true}
+use Rattle.std.proofs.lemmas.Bool.{false≢true}
 use Rattle.std.proofs.lemmas.List.Folds.{list_all-append}
 use Rattle.std.proofs.lemmas.Option.{none-some, same_Some}
 use Rattle.unicode_ident.specs.Ident.{is_xid_continue}
@@ -29,14 +29,14 @@ pub rest_front : (at : ℕ) (front rest : List ℕ) → list_all is_xid_continue
 rest_front at [] [] h s = refl
 rest_front at [] (c ∷ rest) h s =
     let n : at ≡ at + 0 = omega arith in
-    cond-false (is_xid_continue c) _ _ s ∙ ap (λ m. front_fault m (c ∷ rest)) n
+    rw s (ap (λ m. front_fault m (c ∷ rest)) n)
 rest_front at (c ∷ front) rest h s =
     let n : at + length (encode_utf8 c) + length (encode_utf8_all front)
     ≡ at + length (encode_utf8_all (c ∷ front)) =
     let l = length-append (encode_utf8 c) (encode_utf8_all front) in omega arith in
-    cond-true (is_xid_continue c) _ _ (head_passes is_xid_continue c front h)
-    ∙ rest_front (at + length (encode_utf8 c)) front rest (tail_passes is_xid_continue c front h) s
-    ∙ ap (λ m. front_fault m rest) n
+    let more = rest_front (at + length (encode_utf8 c)) front rest
+    (tail_passes is_xid_continue c front h) s in
+    rw (head_passes is_xid_continue c front h) (cc)
 
 -- a text that begins as an identifier
 pub begun : (text rest after : List ℕ) (c : ℕ) → text ≡ c ∷ rest → is_ascii_digit c ≡ false →
@@ -44,29 +44,23 @@ pub begun : (text rest after : List ℕ) (c : ℕ) → text ≡ c ∷ rest → i
     × Skips is_xid_continue rest front after → (found : List ℕ) × (text ≡ found ++ after)
     × (ident_fault text ≡ front_fault (length (encode_utf8_all found)) after)
 begun text rest after c e digit start plain (front, s) =
-    let whole : text ≡ (c ∷ front) ++ after = e ∙ ap (λ w. c ∷ w) s.cut in
+    let whole : text ≡ (c ∷ front) ++ after = cc s.cut in
     let n : length (encode_utf8 c) + length (encode_utf8_all front)
     ≡ length (encode_utf8_all (c ∷ front)) =
     sym (length-append (encode_utf8 c) (encode_utf8_all front)) in
     let parts : rest_fault (length (encode_utf8 c)) rest
     ≡ front_fault (length (encode_utf8_all (c ∷ front))) after =
-    ap (rest_fault (length (encode_utf8 c))) s.cut
-    ∙ rest_front (length (encode_utf8 c)) front after s.pass s.stops
-    ∙ ap (λ m. front_fault m after) n in (
+    cc (rest_front (length (encode_utf8 c)) front after s.pass s.stops) in (
       c ∷ front,
       whole,
-      cond-true (is_plain text) _ _ plain ∙ ap plain_fault e
-          ∙ cond-false (is_ascii_digit c) _ _ digit
-          ∙ cond-true (is_identifier_start c) _ _ start ∙ parts,
+      rw (plain, e, digit, start) parts,
     )
 
 -- and one that doesn't
 pub unbegun : (text rest : List ℕ) (c : ℕ) → text ≡ c ∷ rest → is_ascii_digit c ≡ false →
     is_identifier_start c ≡ false → is_plain text ≡ true → ident_fault text ≡ front_fault 0 text
 unbegun text rest c e digit start plain =
-    cond-true (is_plain text) _ _ plain ∙ ap plain_fault e
-    ∙ cond-false (is_ascii_digit c) _ _ digit ∙ cond-false (is_identifier_start c) _ _ start
-    ∙ ap (front_fault 0) (sym e)
+    rw (plain, e, digit, start)
 
 -- nothing is wrong with characters that go on
 rest_passes : (at : ℕ) (cs : List ℕ) → rest_fault at cs ≡ None → list_all is_xid_continue cs ≡ true
@@ -84,8 +78,8 @@ rest_passes at (c ∷ cs) h =
 passes_rest : (at : ℕ) (cs : List ℕ) → list_all is_xid_continue cs ≡ true → rest_fault at cs ≡ None
 passes_rest at [] h = refl
 passes_rest at (c ∷ cs) h =
-    cond-true (is_xid_continue c) _ _ (head_passes is_xid_continue c cs h)
-    ∙ passes_rest (at + length (encode_utf8 c)) cs (tail_passes is_xid_continue c cs h)
+    rw (head_passes is_xid_continue c cs h)
+    (passes_rest (at + length (encode_utf8 c)) cs (tail_passes is_xid_continue c cs h))
 
 -- a digit begins no identifier
 digit_no_start : (c : ℕ) (b : Bool) → is_ascii_digit c ≡ b → is_identifier_start c ≡ true →
@@ -128,9 +122,8 @@ tells (c ∷ cs) true h = step (is_ascii_digit c) (is_identifier_start c) refl h
 told : (text : List ℕ) → IsIdentifier text → ident_fault text ≡ None
 told [] h = absurd h
 told (c ∷ cs) h =
-    cond-true (is_plain (c ∷ cs)) _ _ (identifier_plain (c ∷ cs) h)
-    ∙ cond-false (is_ascii_digit c) _ _ (digit_no_start c (is_ascii_digit c) refl h.0)
-    ∙ cond-true (is_identifier_start c) _ _ h.0 ∙ passes_rest (length (encode_utf8 c)) cs h.1
+    rw (identifier_plain (c ∷ cs) h, digit_no_start c (is_ascii_digit c) refl h.0, h.0)
+    (passes_rest (length (encode_utf8 c)) cs h.1)
 
 pub tell_identifiers : FaultsTellIdentifiers
 tell_identifiers text = (tells text (is_plain text), told text)
@@ -144,7 +137,7 @@ tell_raw_forms text = (there (has_no_raw text) refl, back)
     there false e h = (tells text (is_plain text) h, e)
 
     back : HasRaw text → raw_ident_fault text ≡ None
-    back (h, e) = cond-false (has_no_raw text) _ _ e ∙ told text h
+    back (h, e) = rw e (told text h)
 
 -- what a reason names
 abbrev place : Option IdentFault → ℕ
@@ -177,9 +170,9 @@ found n (d ∷ cs) at c h =
         let there : n ≡ at = ap place h in (
           [],
           cs,
-          ap (λ w. w ∷ cs) same,
+          cc,
           refl,
-          ap is_xid_continue (sym same) ∙ e,
+          cc,
           omega arith,
         )
     step true more e h =
@@ -187,8 +180,8 @@ found n (d ∷ cs) at c h =
         let l = length-append (encode_utf8 d) (encode_utf8_all front) in (
           d ∷ front,
           rest,
-          ap (λ w. d ∷ w) cut,
-          ap (λ b. b && list_all is_xid_continue front) e ∙ pass,
+          cc,
+          rw e pass,
           stops,
           omega arith,
         )
@@ -197,8 +190,7 @@ found n (d ∷ cs) at c h =
 ends : (front : List ℕ) (c : ℕ) → list_all is_xid_continue front ≡ true →
     is_xid_continue c ≡ false → list_all is_xid_continue (front ++ c ∷ []) ≡ true → ⊥
 ends front c pass stops h =
-    false≢true (sym (list_all-append is_xid_continue front (c ∷ [])
-    ∙ ap (λ b. b && (is_xid_continue c && true)) pass ∙ ap (λ b. b && true) stops) ∙ h)
+    false≢true (rw (list_all-append, pass, stops) at h)
 
 -- what a reason that names a character says of a text
 abbrev Told : ℕ → ℕ → List ℕ → Type 0
@@ -224,8 +216,8 @@ tell_characters text at c h = by_plain text (is_plain text) h
             let (front, rest, cut, pass, stops, is) = found (length (encode_utf8 d)) cs at c h in (
               d ∷ front,
               rest,
-              ap (λ w. d ∷ w) cut,
-              is ∙ sym (length-append (encode_utf8 d) (encode_utf8_all front)),
+              cc,
+              cc (length-append (encode_utf8 d) (encode_utf8_all front)),
               inr (e, pass),
               λ i. ends front c pass stops i.1,
             )
@@ -234,8 +226,8 @@ tell_characters text at c h = by_plain text (is_plain text) h
             let there : 0 ≡ at = ap place h in (
               [],
               cs,
-              ap (λ w. w ∷ cs) same,
+              cc,
               sym there,
               inl refl,
-              λ i. false≢true (sym e ∙ ap is_identifier_start same ∙ i.0),
+              λ i. absurd (cc (i.0)),
             )

@@ -1,9 +1,8 @@
 -- A text is one literal, by one rule.
-use Rattle.std.proofs.Common.{◌≡◌, ◌∙◌, ◌++◌, ◌∷◌, [], ap, arith, false, length, List, ℕ, None, subst}
-use Rattle.std.proofs.Common.{suc, sym, true}
+use Rattle.std.proofs.Common.{◌≡◌, ◌∷◌, [], arith, false, length, List, ℕ, None}
+use Rattle.std.proofs.Common.{suc, true}
 use Rattle.std.specs.Prelude.{◌==◌, Bool, MatchBool}
 use Rattle.std.specs.Str.{chars, IsUtf8}
-use Rattle.std.proofs.lemmas.Bool.{false≢true}
 use Rattle.std.proofs.lemmas.List.{append-nil}
 use Rattle.std.proofs.lemmas.Str.{chars-nil}
 use Rattle.tok_lexical.specs.Errors.{error_kind}
@@ -38,24 +37,18 @@ module _ (text piece : List ℕ) (rest : List ℕ) (rule : Rule)
 
   pub other_rule : is_literal_rule rule ≡ false → IsOneLiteral text → ⊥
   other_rule h (other, is, fits, ok) =
-      false≢true (sym h ∙ ap is_literal_rule (decides_unique fit fits).0 ∙ is)
+      absurd (cc (decides_unique fit fits).0)
 
   pub rejected : (error_kind rule (Source Edition2024) 0 text [] ≡ None → ⊥) → IsOneLiteral text → ⊥
   rejected never (other, is, fits, ok) =
-      never (ap (λ r. error_kind r (Source Edition2024) 0 text []) (decides_unique fit fits).0 ∙ ok)
+      never (rw (decides_unique fit fits).0 ok)
 
   pub one_literal : (length rest == 0) ≡ true → is_literal_rule rule ≡ true →
       error_kind rule (Source Edition2024) 0 text [] ≡ None → IsOneLiteral text
   one_literal h is ok =
-      let none : chars rest ≡ [] = ap chars (no_text rest h) ∙ chars-nil in
-      let whole : piece ≡ text =
-      sym ((fits_longest fit).cut ∙ ap (λ r. piece ++ r) none ∙ append-nil piece) in (
-        rule,
-        is,
-        subst (λ p. IsFirstFit text (rules_of (Source Edition2024)) rule p []) whole
-            (subst (λ r. IsFirstFit text (rules_of (Source Edition2024)) rule piece r) none fit),
-        ok,
-      )
+      let none : chars rest ≡ [] = cc (no_text rest h, chars-nil) in
+      let whole : piece ≡ text = cc ((fits_longest fit).cut, append-nil piece) in
+      (rule, is, rw (none, whole) at fit, ok)
 
 -- a test of the one tells the other
 pub by_test : (P Q : Type 0) (b : Bool) → (Q → P) → ((Q → ⊥) → P → ⊥) → MatchBool b Q (Q → ⊥) →

@@ -1,12 +1,9 @@
 -- The names of lifetimes, and why a text is none.
-use Rattle.std.proofs.Common.{◌≡◌, ◌∙◌, sym, ap, refl, ℕ, Bool, true, false, ◌&&◌, List, [], ◌∷◌}
+use Rattle.std.proofs.Common.{◌≡◌, ◌∙◌, sym, ap, refl, ℕ, Bool, true, false, List, [], ◌∷◌}
 use Rattle.std.proofs.Common.{length, None, Some, ◌⊎◌, inl, inr, arith, eqb-true}
-use Rattle.std.proofs.Common.{encode_utf8_all}
 use Rattle.std.specs.Prelude.{◌==◌}
-use Rattle.std.specs.List.{list_all}
 use Rattle.std.specs.Str.{chars, IsUtf8}
-use Rattle.unicode_ident.specs.Ident.{is_xid_continue}
-use Rattle.std.proofs.lemmas.Bool.{cond-true, cond-false, false≢true}
+use Rattle.std.proofs.lemmas.Bool.{and_parts, cond-true, cond-false, false≢true}
 use Rattle.std.proofs.lemmas.Str.{chars-nil, encodes-chars}
 use Rattle.tok_lexical.specs.Words.{IsIdentifier, HasRaw, has_no_raw}
 use Rattle.tok_leaves.specs.declared.ident.MakeFault.{MakeFault}
@@ -21,24 +18,20 @@ no_text (b ∷ bs) h = absurd (omega (arith, eqb-true (length (b ∷ bs)) 0 h))
 
 -- no name at all
 pub empty_plain : (bs : List ℕ) → (length bs == 0) ≡ true → plain_error (chars bs) ≡ Some Empty
-empty_plain bs h = ap (λ x. plain_error (chars x)) (no_text bs h) ∙ ap plain_error chars-nil
+empty_plain bs h = rw (no_text bs h, chars-nil)
 
 pub empty_raw : (bs : List ℕ) → has_no_raw (chars bs) ≡ false → (length bs == 0) ≡ true →
     raw_error (chars bs) ≡ Some Empty
-empty_raw bs q h = cond-false (has_no_raw (chars bs)) _ (plain_error (chars bs)) q
-    ∙ empty_plain bs h
+empty_raw bs q h = rw q (empty_plain bs h)
 
 -- a test and the fact that it tells
 tells : (cs : List ℕ) → is_identifier cs ≡ true → IsIdentifier cs
 tells [] h = absurd (false≢true h)
-tells (c ∷ cs) h = and_parts _ _ h where
-  and_parts : (a b : Bool) → (a && b) ≡ true → (a ≡ true) × (b ≡ true)
-  and_parts true b h = (refl, h)
-  and_parts false b h = absurd (false≢true h)
+tells (c ∷ cs) h = and_parts _ _ h
 
 tells_identifier : (cs : List ℕ) → IsIdentifier cs → is_identifier cs ≡ true
 tells_identifier [] h = absurd h
-tells_identifier (c ∷ cs) h = ap (λ b. b && list_all is_xid_continue cs) h.0 ∙ h.1
+tells_identifier (c ∷ cs) h = rw h.0 h.1
 
 identifier_or_not : (cs : List ℕ) (b : Bool) → is_identifier cs ≡ b → (is_identifier cs ≡ true)
     ⊎ (IsIdentifier cs → ⊥)
@@ -62,8 +55,8 @@ not_told cs false e never = e
 -- some text has some characters
 pub some_chars : (bs : List ℕ) → IsUtf8 bs → (length bs == 0) ≡ false → chars bs ≡ [] → ⊥
 some_chars bs u h e =
-    false≢true (sym h
-    ∙ ap (λ n. n == 0) (ap length (sym (encodes-chars bs u) ∙ ap encode_utf8_all e)))
+    let empty : bs ≡ [] = cc (encodes-chars bs u) in
+    false≢true (sym h ∙ ap (λ b. length b == 0) empty)
 
 -- the maker's fault says what is wrong with a name
 pub plain_fault : (bs : List ℕ) (fault : MakeFault) → IsUtf8 bs → (length bs == 0) ≡ false
@@ -84,5 +77,4 @@ pub raw_fault : (bs : List ℕ) (fault : MakeFault) → IsUtf8 bs → (length bs
     → (HasRaw (chars bs) → fault ≡ Memory) → ((HasRaw (chars bs) → ⊥) → fault ≡ Refused)
     → raw_error (chars bs) ≡ error_in (name_fault fault)
 raw_fault bs fault u h raw takes refuses =
-    cond-false (has_no_raw (chars bs)) _ (plain_error (chars bs)) raw
-    ∙ plain_fault bs fault u h (λ i. takes (i, raw)) (λ never. refuses (λ r. never r.0))
+    rw raw (plain_fault bs fault u h (λ i. takes (i, raw)) (λ never. refuses (λ r. never r.0)))

@@ -1,6 +1,6 @@
 -- Plain characters are written as they are.
-use Rattle.std.proofs.Common.{◌≡◌, ◌∙◌, ℕ, ◌<◌, List, [], ◌∷◌, ◌++◌, refl}
-use Rattle.std.proofs.Common.{sym, ap, arith, true, false, append_assoc}
+use Rattle.std.proofs.Common.{◌≡◌, ℕ, ◌<◌, List, [], ◌∷◌, ◌++◌, refl}
+use Rattle.std.proofs.Common.{arith, true, false, append_assoc}
 use Rattle.std.specs.Prelude.{not, Bool, ◌||◌, encode_utf8, encode_utf8_all, count_by}
 use Rattle.std.specs.List.{list_all, flat_map}
 use Rattle.std.proofs.lemmas.Bool.{and_parts, agree_below_at}
@@ -37,19 +37,22 @@ as_they_are : (written : ℕ → List ℕ) → ((c : ℕ) → is_plain c ≡ tru
 as_they_are written same [] rest p = refl
 as_they_are written same (c ∷ front) rest p =
     let both = and_parts (is_plain c) (list_all is_plain front) p in
-    ap (λ w. w ++ flat_map written (front ++ rest)) (same c both.0)
-    ∙ ap (λ w. encode_utf8 c ++ w) (as_they_are written same front rest both.1)
-    ∙ sym (append_assoc (encode_utf8 c) (encode_utf8_all front) (flat_map written rest))
+    cc (
+      same c both.0,
+      as_they_are written same front rest both.1,
+      append_assoc (encode_utf8 c) (encode_utf8_all front) (flat_map written rest),
+    )
 
 pub plain_more : (written : ℕ → List ℕ) (text front rest out new all : List ℕ) →
     ((c : ℕ) → is_plain c ≡ true → written c ≡ encode_utf8 c) → Skips is_plain text front rest →
     new ≡ out ++ encode_utf8_all front → out ++ flat_map written text ≡ all →
     new ++ flat_map written rest ≡ all
 plain_more written text front rest out new all same skips n h =
-    ap (λ w. w ++ flat_map written rest) n
-    ∙ append_assoc out (encode_utf8_all front) (flat_map written rest)
-    ∙ ap (λ w. out ++ w) (sym (as_they_are written same front rest skips.pass))
-    ∙ ap (λ w. out ++ flat_map written w) (sym skips.cut) ∙ h
+    cc (
+      append_assoc out (encode_utf8_all front) (flat_map written rest),
+      as_they_are written same front rest skips.pass,
+      skips.cut,
+    )
 
 -- the bytes that aren't unescaped are those with an escape
 pub escapes_counted : (bytes : List ℕ) → count_by (λ b. not (is_unescaped b)) bytes

@@ -18,17 +18,17 @@ pub quoted_more : (written : ℕ → List ℕ) (text rest out new all : List ℕ
     text ≡ encode_utf8 c ++ rest → new ≡ out ++ written c → out ++ flat_map written (chars text)
     ≡ all → new ++ flat_map written (chars rest) ≡ all
 quoted_more written text rest out new all c u e n h =
-    ap (λ w. w ++ flat_map written (chars rest)) n
-    ∙ append_assoc out (written c) (flat_map written (chars rest))
-    ∙ ap (λ w. out ++ flat_map written w) (sym (chars_past_char text rest c u e)) ∙ h
+    cc (
+      append_assoc out (written c) (flat_map written (chars rest)),
+      chars_past_char text rest c u e,
+    )
 
 pub quoted_end : (written : ℕ → List ℕ) (text rest out new mark : List ℕ) → chars rest ≡ [] →
     out ++ flat_map written (chars rest) ≡ codes "\"" ++ flat_map written (chars text) →
     mark ≡ codes "\"" → new ≡ out ++ mark → new ≡ codes "\""
     ++ (flat_map written (chars text) ++ codes "\"")
 quoted_end written text rest out new mark e h m n =
-    let done = sym (append-nil out) ∙ ap (λ w. out ++ flat_map written w) (sym e) ∙ h in
-    n ∙ ap (λ w. out ++ w) m ∙ ap (λ w. w ++ codes "\"") done
+    cc (append-nil out)
 
 -- the bytes that stand for a character are as many as its own, and one more for an escape
 low_length : (c : ℕ) → c < 128 → length (escaped c) ≡ length (c ∷ [])
@@ -95,6 +95,5 @@ all_length (c ∷ cs) =
 pub quoted_length : (text : List ℕ) → IsUtf8 text → length (in_quotes (chars text))
     ≡ length text + count_by has_escape text + 2
 quoted_length text u =
-    let inside = all_length (chars text)
-    ∙ ap (λ w. length w + count_by has_escape w) (encodes-chars text u) in
+    let inside = rw (encodes-chars text u) at (all_length (chars text)) in
     omega (arith, inside, length-append (flat_map escaped (chars text)) (codes "\""))
