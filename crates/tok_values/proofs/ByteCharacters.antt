@@ -1,6 +1,6 @@
 -- The text of a made byte literal is read as one, and its value is the byte.
 use Rattle.std.proofs.Common.{◌≡◌, ◌∙◌, ℕ, ◌<◌, List, [], ◌∷◌, ◌++◌, None, Some, Bool, true, false}
-use Rattle.std.proofs.Common.{refl, sym, ap, subst, inl, inr, arith, eqb-true}
+use Rattle.std.proofs.Common.{refl, ap, inl, inr, arith, eqb-true}
 use Rattle.std.specs.Prelude.{◌==◌, ◌&&◌, codes}
 use Rattle.std.specs.Char.{is_digit}
 use Rattle.std.specs.Char.Escape.{escape_ascii}
@@ -34,7 +34,7 @@ inner_from [] h = absurd (false≢true h)
 inner_from (c ∷ []) h = inl (c, h, refl)
 inner_from (a ∷ c ∷ []) h =
     let both = and_parts (a == 92) (is_simple_escape c) h in
-    inr (c ∷ [], ap (λ w. w ∷ c ∷ []) (eqb-true a 92 both.0), simple c both.1)
+    inr (c ∷ [], cc (eqb-true a 92 both.0), simple c both.1)
 inner_from (a ∷ x ∷ h ∷ []) e = absurd (false≢true e)
 inner_from (a ∷ x ∷ h ∷ l ∷ []) e =
     let one = and_parts (a == 92) _ e in
@@ -42,8 +42,7 @@ inner_from (a ∷ x ∷ h ∷ l ∷ []) e =
     let digits = and_parts (is_digit h 16) (is_hex l) two.1 in
     inr (
       120 ∷ h ∷ l ∷ [],
-      ap (λ w. w ∷ x ∷ h ∷ l ∷ []) (eqb-true a 92 one.0)
-          ∙ ap (λ w. 92 ∷ w ∷ h ∷ l ∷ []) (eqb-true x 120 two.0),
+      cc (eqb-true a 92 one.0, eqb-true x 120 two.0),
       hex (h, l, refl, digits.0, digits.1),
     )
 inner_from (a ∷ x ∷ h ∷ l ∷ m ∷ rest) e = absurd (false≢true e)
@@ -59,7 +58,7 @@ pub byte_characters_are_read : (mode : Mode) (byte : ℕ) → byte < 256 →
     let text = chars (bytes_between (codes "b'") (byte ∷ []) (codes "'")) in
     IsOnePiece mode ByteChar text × IsByteValue text byte
 byte_characters_are_read mode byte h =
-    subst (λ w. IsOnePiece mode ByteChar w × IsByteValue w byte) (sym text_is) (
+    rw text_is (
       (
         decides_begun mode 98 (39 ∷ inner) start.Prefix refl refl
             (here (whole (Spells ByteChar) (98 ∷ 39 ∷ inner)

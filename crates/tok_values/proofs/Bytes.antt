@@ -1,18 +1,17 @@
 -- The text of a made byte string literal is read as one in sources, and its value is the bytes.
-use Rattle.std.proofs.Common.{◌≡◌, ◌∙◌, ℕ, ◌<◌, List, [], ◌∷◌, ◌++◌, None, Some, Bool, true, false}
-use Rattle.std.proofs.Common.{refl, sym, ap, subst, inl, append_assoc, get_or, arith}
+use Rattle.std.proofs.Common.{◌≡◌, ◌∙◌, ℕ, ◌+◌, ◌-◌, ◌≤◌, ◌<◌, List, [], ◌∷◌, ◌++◌, None, Some, Bool, true, false}
+use Rattle.std.proofs.Common.{refl, sym, ap, inl, append_assoc, get_or, arith}
 use Rattle.std.specs.Prelude.{◌==◌, ◌||◌, ◌&&◌, not, nat_le, codes, encode_utf8_all, map}
-use Rattle.std.specs.Prelude.{if◌then◌else◌}
 use Rattle.std.specs.Char.{is_digit}
 use Rattle.std.specs.Char.Escape.{escape_ascii}
 use Rattle.std.specs.List.{flat_map, list_any, range_with_len}
 use Rattle.std.specs.Str.{chars}
 use lib.Utf8.{scalars}
-use Rattle.std.proofs.lemmas.Bool.{and_parts, eqb-true, false≢true}
+use Rattle.std.proofs.lemmas.Bool.{and_parts, eqb-false, eqb-true, false≢true, not-true, or_parts}
 use Rattle.std.proofs.lemmas.List.FromFn.{get_or-map-range_with_len}
 use Rattle.std.proofs.lemmas.List.Folds.{list_any-append}
 use Rattle.std.proofs.lemmas.Str.{chars-encodes, encodes-append}
-use Rattle.tok_lexical.specs.Contents.{has_misfit, has_quote, has_return, is_wrong}
+use Rattle.tok_lexical.specs.Contents.{has_misfit, has_return, is_wrong}
 use Rattle.tok_lexical.specs.Errors.{error_kind}
 use Rattle.tok_lexical.specs.Fits.{here, later}
 use Rattle.tok_lexical.specs.Pieces.{HasPrefix}
@@ -30,17 +29,21 @@ use Rattle.tok_lexical.proofs.First.{decides_begun}
 use Rattle.tok_leaves.specs.Quoting.{bytes_between, escaped_byte}
 use Rattle.tok_values.specs.Laws.{AreBytes, IsOnePiece}
 use Rattle.tok_values.specs.Strings.{IsBytesValue, Means, more, nothing, unit}
-use Rattle.tok_values.proofs.Quoted.{scalars-append, two}
-use Rattle.tok_values.proofs.Chars.{one_byte}
-use Rattle.tok_values.proofs.Read.{other}
+use Rattle.tok_values.proofs.Quoted.{one_byte, scalars-append, two}
 use Rattle.tok_values.proofs.Written.{whole}
 
--- what holds of each byte holds of this one, by computing
+-- what holds of each number of a range holds of this one, by computing
+pub each_from : {X : Type 0} (first count : ℕ) (f g : ℕ → X) (d : X) (b : ℕ) →
+    map f (range_with_len first count) ≡ map g (range_with_len first count) → first ≤ b →
+    b < first + count → f b ≡ g b
+each_from first count f g d b same low high =
+    sym (get_or-map-range_with_len f first count (b - first) b d (omega arith) (omega arith))
+    ∙ ap (λ w. get_or w (b - first) d) same
+    ∙ get_or-map-range_with_len g first count (b - first) b d (omega arith) (omega arith)
+
 pub each : {X : Type 0} (f g : ℕ → X) (d : X) (b : ℕ) →
     map f (range_with_len 0 256) ≡ map g (range_with_len 0 256) → b < 256 → f b ≡ g b
-each f g d b same h =
-    sym (get_or-map-range_with_len f 0 256 b b d h (omega arith)) ∙ ap (λ w. get_or w b d) same
-    ∙ get_or-map-range_with_len g 0 256 b b d h (omega arith)
+each f g d b same h = each_from 0 256 f g d b same (omega arith) (omega (arith, h))
 
 pub each_true : (f : ℕ → Bool) (b : ℕ) →
     map f (range_with_len 0 256) ≡ map (λ _. true) (range_with_len 0 256) → b < 256 → f b ≡ true
@@ -65,23 +68,16 @@ unit_from : (text : List ℕ) → is_unit text ≡ true → IsUnit Bytes text
 unit_from [] h = absurd (false≢true h)
 unit_from (c ∷ []) h =
     let both = and_parts (not (c == 34)) (not (c == 92)) h in
-    plain c (other c 34 (unnot (c == 34) both.0)) (other c 92 (unnot (c == 92) both.1))
-  where
-    unnot : (b : Bool) → not b ≡ true → b ≡ false
-    unnot true e = absurd (false≢true e)
-    unnot false e = refl
+    plain c (eqb-false c 34 (not-true _ both.0)) (eqb-false c 92 (not-true _ both.1))
 unit_from (a ∷ c ∷ []) h =
     let both = and_parts (a == 92) (is_simple_escape c) h in
-    subst (λ w. IsUnit Bytes (w ∷ c ∷ [])) (sym (eqb-true a 92 both.0))
-    (escape (simple c both.1))
+    rw (eqb-true a 92 both.0) (escape (simple c both.1))
 unit_from (a ∷ x ∷ h ∷ []) e = absurd (false≢true e)
 unit_from (a ∷ x ∷ h ∷ l ∷ []) e =
     let one = and_parts (a == 92) _ e in
     let two = and_parts (x == 120) _ one.1 in
     let digits = and_parts (is_digit h 16) (is_hex l) two.1 in
-    subst (λ w. IsUnit Bytes (w ∷ x ∷ h ∷ l ∷ [])) (sym (eqb-true a 92 one.0))
-    (subst (λ w. IsUnit Bytes (92 ∷ w ∷ h ∷ l ∷ [])) (sym (eqb-true x 120 two.0))
-    (escape (hex (h, l, refl, digits.0, digits.1))))
+    rw (eqb-true a 92 one.0, eqb-true x 120 two.0) (escape (hex (h, l, refl, digits.0, digits.1)))
 unit_from (a ∷ x ∷ h ∷ l ∷ m ∷ rest) e = absurd (false≢true e)
 
 pub byte_unit : (b : ℕ) → b < 256 → IsUnit Bytes (escape_ascii b)
@@ -108,12 +104,11 @@ all_means [] h = nothing (34 ∷ [])
 all_means (b ∷ bytes) h =
     let rest = flat_map escape_ascii bytes ++ 34 ∷ [] in
     more ((escape_ascii b ++ flat_map escape_ascii bytes) ++ 34 ∷ []) rest (34 ∷ []) (b ∷ []) bytes
-    (ap (unit true) (append_assoc (escape_ascii b) (flat_map escape_ascii bytes) (34 ∷ []))
-    ∙ byte_value b rest h.0) (all_means bytes h.1)
+    (rw append_assoc (byte_value b rest h.0)) (all_means bytes h.1)
 
 pub both_even : (xs ys : List ℕ) → list_any is_odd xs ≡ false → list_any is_odd ys ≡ false →
     list_any is_odd (xs ++ ys) ≡ false
-both_even xs ys h k = list_any-append is_odd xs ys ∙ ap (λ b. b || list_any is_odd ys) h ∙ k
+both_even xs ys h k = rw (list_any-append is_odd xs ys, h) k
 
 pub all_even : (bytes : List ℕ) → AreBytes bytes →
     list_any is_odd (flat_map escape_ascii bytes) ≡ false
@@ -131,8 +126,7 @@ all_encoded : (bytes : List ℕ) →
     encode_utf8_all (flat_map escape_ascii bytes) ≡ flat_map escaped_byte bytes
 all_encoded [] = refl
 all_encoded (b ∷ bytes) =
-    encodes-append (escape_ascii b) (flat_map escape_ascii bytes)
-    ∙ ap (λ w. escaped_byte b ++ w) (all_encoded bytes)
+    cc (encodes-append (escape_ascii b) (flat_map escape_ascii bytes), all_encoded bytes)
 
 -- the characters of the literal, between a prefix with a mark and the mark
 pub made : (prefix mark : ℕ) (bytes : List ℕ) → prefix < 128 → mark < 128 →
@@ -143,42 +137,35 @@ made prefix mark bytes p q both last h =
     let inner = flat_map escape_ascii bytes ++ mark ∷ [] in
     let opening : List ℕ = prefix ∷ mark ∷ [] in
     let encoded : encode_utf8_all (opening ++ inner) ≡ bytes_between opening bytes (mark ∷ []) =
-    encodes-append opening inner
-    ∙ ap (λ w. w ++ encode_utf8_all inner) (two prefix mark p q)
-    ∙ ap (λ w. opening ++ w) (encodes-append (flat_map escape_ascii bytes) (mark ∷ [])
-    ∙ ap (λ w. w ++ encode_utf8_all (mark ∷ [])) (all_encoded bytes)
-    ∙ ap (λ w. flat_map escaped_byte bytes ++ w) (one_byte mark q)) in
-    ap chars (sym encoded)
-    ∙ chars-encodes (prefix ∷ mark ∷ inner)
+    cc (
+      encodes-append opening inner,
+      two prefix mark p q,
+      encodes-append (flat_map escape_ascii bytes) (mark ∷ []),
+      all_encoded bytes,
+      one_byte mark q,
+    ) in
+    rw (← encoded) (chars-encodes (prefix ∷ mark ∷ inner)
     (scalars-append opening inner both
-    (scalars-append (flat_map escape_ascii bytes) (mark ∷ []) (all_scalars bytes h) last))
+    (scalars-append (flat_map escape_ascii bytes) (mark ∷ []) (all_scalars bytes h) last)))
 
 -- what no odd character is in
 pub no_return : (text : List ℕ) → list_any is_odd text ≡ false → has_return text ≡ false
 no_return [] h = refl
-no_return (c ∷ text) h = go (c == 13) (nat_le 128 c) (no_return text) h
-  where
-    go : (a b : Bool) → (list_any is_odd text ≡ false → has_return text ≡ false) →
-        ((a || b) || list_any is_odd text) ≡ false → (a || has_return text) ≡ false
-    go true b f k = absurd (false≢true (sym k))
-    go false true f k = absurd (false≢true (sym k))
-    go false false f k = f k
+no_return (c ∷ text) h =
+    let even = or_parts (is_odd c) _ h in
+    let other = or_parts (c == 13) _ even.0 in
+    cc (no_return text even.1)
 
 no_misfit : (text : List ℕ) → list_any is_odd text ≡ false → has_misfit Bytes text ≡ false
 no_misfit [] h = refl
-no_misfit (c ∷ text) h = go (c == 13) (nat_le 128 c) (no_misfit text) h
-  where
-    go : (a b : Bool) → (list_any is_odd text ≡ false → has_misfit Bytes text ≡ false) →
-        ((a || b) || list_any is_odd text) ≡ false →
-        (if b then has_quote text else has_misfit Bytes text) ≡ false
-    go true b f k = absurd (false≢true (sym k))
-    go false true f k = absurd (false≢true (sym k))
-    go false false f k = f k
+no_misfit (c ∷ text) h =
+    let even = or_parts (is_odd c) _ h in
+    let other = or_parts (c == 13) _ even.0 in
+    cc (no_misfit text even.1)
 
 fits : (text : List ℕ) → list_any is_odd text ≡ false → is_wrong Bytes text ≡ false
 fits text h =
-    ap (λ b. b || has_misfit Bytes text)
-    (none_bare text (has_return text) (λ e. e) (no_return text h)) ∙ no_misfit text h
+    rw (none_bare text (has_return text) (λ e. e) (no_return text h)) (no_misfit text h)
 
 -- no byte character begins so
 module _ (inner : List ℕ) where
@@ -196,9 +183,9 @@ module _ (inner : List ℕ) where
 pub byte_strings_are_read : (edition : Edition) (bytes : List ℕ) → AreBytes bytes →
     let text = chars (bytes_between (codes "b\"") bytes (codes "\"")) in
     IsOnePiece (Source edition) (QuotedString Bytes) text × IsBytesValue text bytes
-byte_strings_are_read edition bytes h = (
-  subst (IsOnePiece (Source edition) (QuotedString Bytes))
-      (sym (made 98 34 bytes (omega arith) (omega arith) refl refl h)) (
+byte_strings_are_read edition bytes h =
+    rw (made 98 34 bytes (omega arith) (omega arith) refl refl h) (
+      (
         decides_begun (Source edition) 98 (34 ∷ inner) start.Prefix refl refl
             (later (no_byte inner) (later (no_start inner)
             (here (whole (Spells (QuotedString Bytes)) (98 ∷ 34 ∷ inner) (
@@ -208,9 +195,8 @@ byte_strings_are_read edition bytes h = (
             ))))),
         λ at. unrejected,
       ),
-  subst (λ w. IsBytesValue w bytes) (sym (made 98 34 bytes (omega arith) (omega arith) refl refl h))
       (34 ∷ inner, refl, (inner, refl, (34 ∷ [], all_means bytes h, ([], refl, refl)))),
-)
+    )
   where
     inner : List ℕ
     inner = flat_map escape_ascii bytes ++ 34 ∷ []

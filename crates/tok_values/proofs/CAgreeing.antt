@@ -1,15 +1,16 @@
 -- A C string means what the string after its `c` means.
 use Rattle.std.proofs.Common.{◌≡◌, ◌∙◌, ℕ, ◌+◌, ◌*◌, ◌<◌, List, [], ◌∷◌, None, Option, Some}
-use Rattle.std.proofs.Common.{Bool, false, true, ap, arith, eqb-true, inl, inr, refl, subst, sym}
-use Rattle.std.specs.Prelude.{◌==◌, ◌&&◌, cond, encode_utf8_all, option_map}
+use Rattle.std.proofs.Common.{false, true, ap, arith, eqb-true, inl, inr, refl, sym}
+use Rattle.std.specs.Prelude.{◌==◌, ◌&&◌, encode_utf8_all, option_map}
 use Rattle.std.specs.Char.{digit_value, is_digit}
-use Rattle.std.proofs.lemmas.Bool.{and_from, and_parts, lt-ltb, ltb-true}
+use Rattle.std.proofs.lemmas.Bool.{and_parts, and_right, cases_Bool, lt-ltb, ltb-true}
+use Rattle.std.proofs.lemmas.Option.{cond_some}
 use Rattle.std.proofs.lemmas.Str.{encodes-append}
 use Rattle.tok_values.specs.CStrings.{bytes_of, c_unit, names_byte}
 use Rattle.tok_values.specs.Escapes.{hex}
 use Rattle.tok_values.specs.Laws.{CStringsAgree}
 use Rattle.tok_values.specs.Strings.{Means, MeansBy, alone, more, nothing, unit}
-use Rattle.tok_values.proofs.Chars.{one_byte}
+use Rattle.tok_values.proofs.Quoted.{one_byte}
 
 -- a byte below 80 has the same two digits in both
 abbrev IsNarrow : List ℕ → ℕ → List ℕ → Type 0
@@ -20,27 +21,12 @@ hex_narrow : (text : List ℕ) (c : ℕ) (after : List ℕ) → hex 8 text ≡ S
 hex_narrow [] c after e = absurd (cc)
 hex_narrow (high ∷ []) c after e = absurd (cc)
 hex_narrow (high ∷ low ∷ rest) c after e =
-    at (is_digit high 8 && is_digit low 16) refl e
-  where
-    read : Option (ℕ × List ℕ)
-    read = Some (digit_value high * 16 + digit_value low, rest)
-
-    at : (b : Bool) → (is_digit high 8 && is_digit low 16) ≡ b →
-        cond b read None ≡ Some (c, after) → IsNarrow (high ∷ low ∷ rest) c after
-    at false f g = absurd (cc)
-    at true f g =
-        let both = and_parts (is_digit high 8) (is_digit low 16) f in
-        let first = ltb-true (digit_value high) 8 both.0 in
-        let second = ltb-true (digit_value low) 16 both.1 in
-        let value = ap (number_of c after) g in (
-          ap (λ b. cond b read None)
-              (and_from _ _ (lt-ltb (digit_value high) 16 (omega (arith, first))) both.1) ∙ g,
-          omega (arith, first, second, value),
-        )
-      where
-        number_of : ℕ → List ℕ → Option (ℕ × List ℕ) → ℕ
-        number_of c after None = c
-        number_of c after (Some p) = p.0
+    let (ok, same) = cond_some _ (digit_value high * 16 + digit_value low, rest) (c, after) e in
+    let both = and_parts (is_digit high 8) (is_digit low 16) ok in
+    let first = ltb-true (digit_value high) 8 both.0 in
+    let second = ltb-true (digit_value low) 16 both.1 in
+    let wide = lt-ltb (digit_value high) 16 (omega (arith, first)) in
+    (cc, omega (arith, first, second, ap (λ (p : ℕ × List ℕ). p.0) same))
 
 -- a unit of a string is one of a C string, in UTF-8
 abbrev IsCUnit : List ℕ → List ℕ → List ℕ → Type 0
@@ -49,8 +35,7 @@ IsCUnit text front after = c_unit text ≡ Some (encode_utf8_all front, after)
 plain_unit : (text front after : List ℕ) → names_byte text ≡ false →
     unit false text ≡ Some (front, after) → IsCUnit text front after
 plain_unit text front after e h =
-    ap (λ b. option_map (λ p. (bytes_of b p.0, p.1)) (unit b text)) e
-    ∙ ap (option_map (λ p. (encode_utf8_all p.0, p.1))) h
+    rw (e, h) refl
 
 byte_unit : (rest front after : List ℕ) → unit false (92 ∷ 120 ∷ rest) ≡ Some (front, after) →
     IsCUnit (92 ∷ 120 ∷ rest) front after
@@ -69,46 +54,25 @@ c_unit_found : (text front after : List ℕ) → unit false text ≡ Some (front
     IsCUnit text front after
 c_unit_found [] front after h = absurd (cc)
 c_unit_found (c ∷ []) front after h =
-    plain_unit (c ∷ []) front after (no_second (c == 92)) h
-  where
-    no_second : (b : Bool) → (b && false) ≡ false
-    no_second true = refl
-    no_second false = refl
-c_unit_found (c ∷ d ∷ rest) front after h = at (c == 92) (d == 120) refl refl
-  where
-    at : (x y : Bool) → (c == 92) ≡ x → (d == 120) ≡ y → IsCUnit (c ∷ d ∷ rest) front after
-    at false y e f = plain_unit (c ∷ d ∷ rest) front after (ap (λ b. b && (d == 120)) e) h
-    at true false e f =
-        plain_unit (c ∷ d ∷ rest) front after (ap (λ b. b && (d == 120)) e ∙ f) h
-    at true true e f =
-        let same : c ∷ d ∷ rest ≡ 92 ∷ 120 ∷ rest =
-        ap (λ w. w ∷ d ∷ rest) (eqb-true c 92 e) ∙ ap (λ w. 92 ∷ w ∷ rest) (eqb-true d 120 f) in
-        subst (λ w. IsCUnit w front after) (sym same)
-        (byte_unit rest front after (subst (λ w. unit false w ≡ Some (front, after)) same h))
+    plain_unit (c ∷ []) front after (and_right (c == 92) false refl) h
+c_unit_found (c ∷ d ∷ rest) front after h = elim (cases_Bool ((c == 92) && (d == 120))) [
+  | inl e ↦
+      let both = and_parts (c == 92) _ e in
+      let first = eqb-true c 92 both.0 in
+      let second = eqb-true d 120 both.1 in
+      rw (first, second) (byte_unit rest front after (rw (first, second) at h))
+  | inr e ↦ plain_unit (c ∷ d ∷ rest) front after e h
+]
 
 c_means : {text rest meaning : List ℕ} → Means false text rest meaning →
     MeansBy c_unit text rest (encode_utf8_all meaning)
 c_means (nothing text) = nothing text
 c_means (more text after rest front meaning e m) =
-    subst (MeansBy c_unit text rest) (sym (encodes-append front meaning))
+    rw encodes-append
     (more text after rest (encode_utf8_all front) (encode_utf8_all meaning)
     (c_unit_found text front after e) (c_means m))
 
 pub c_strings_agree : CStringsAgree
-c_strings_agree text value (inl (characters, (inner, e, (rest, means, end)), is)) some = (
-  (
-    text,
-    refl,
-    inl (
-      inner,
-      e,
-      (
-        rest,
-        subst (MeansBy c_unit inner rest) (sym is) (c_means means),
-        end,
-      ),
-    ),
-  ),
-  some,
-)
+c_strings_agree text value (inl (characters, (inner, e, (rest, means, end)), is)) some =
+    ((text, refl, inl (inner, e, (rest, rw is (c_means means), end))), some)
 c_strings_agree text value (inr raw) some = ((text, refl, inr raw), some)

@@ -1,20 +1,19 @@
 -- The text of a made C string literal is read as one in sources, and its value is the bytes.
 use Rattle.std.proofs.Common.{◌≡◌, ◌∙◌, ℕ, suc, ◌<◌, List, [], ◌∷◌, ◌++◌, None, Some}
-use Rattle.std.proofs.Common.{true, false, refl, sym, ap, subst, inl, append_assoc, get_or, arith}
+use Rattle.std.proofs.Common.{true, false, refl, sym, ap, inl, append_assoc, arith}
 use Rattle.std.specs.Ffi.{HasNoNul}
-use Rattle.std.specs.Prelude.{◌==◌, ◌||◌, ◌-◌, codes, map}
+use Rattle.std.specs.Prelude.{◌==◌, codes, map}
 use Rattle.std.specs.Char.Escape.{escape_ascii}
 use Rattle.std.specs.List.{flat_map, list_any, range_with_len}
 use Rattle.std.specs.Str.{chars}
 use Rattle.std.proofs.lemmas.Bool.{false≢true}
 use Rattle.std.proofs.lemmas.List.Folds.{list_any-append}
-use Rattle.std.proofs.lemmas.List.FromFn.{get_or-map-range_with_len}
-use Rattle.tok_lexical.specs.Contents.{has_misfit, has_return, has_zero, is_wrong}
+use Rattle.tok_lexical.specs.Contents.{has_return, has_zero, is_wrong}
 use Rattle.tok_lexical.specs.Editions.{reserves_prefixes}
 use Rattle.tok_lexical.specs.Errors.{error_kind}
 use Rattle.tok_lexical.specs.Fits.{IsFirstFit, here, later}
 use Rattle.tok_lexical.specs.Pieces.{After, HasPrefix}
-use Rattle.tok_lexical.specs.Rules.{Spells, rules_of}
+use Rattle.tok_lexical.specs.Rules.{Spells, among, rules_of}
 use Rattle.tok_lexical.specs.Strings.{AreUnits, IsUnit, escape, no_unit, plain, unit as one_more}
 use Rattle.tok_lexical.specs.declared.contents.Contents.TheVariants.{Bytes, C}
 use Rattle.tok_lexical.specs.declared.edition.Edition.{Edition}
@@ -31,17 +30,16 @@ use Rattle.tok_values.specs.CStrings.{c_unit}
 use Rattle.tok_values.specs.Laws.{AreBytes, IsOnePiece}
 use Rattle.tok_values.specs.Strings.{MeansBy, more, nothing}
 use Rattle.tok_values.specs.Suffixed.{IsCStrValue}
-use Rattle.tok_values.proofs.Bytes.{all_even, both_even, byte_unit, is_odd, made, no_return}
+use Rattle.tok_values.proofs.Bytes.{all_even, both_even, byte_unit, each_from, is_odd, made, no_return}
 use Rattle.tok_values.proofs.Written.{whole}
 use Rattle.tok_values.proofs.Zeros.{has_null, no_misfit}
+use Rattle.tok_lexical.specs.Private.Starts.{beginning}
 
 -- what holds of each byte but zero holds of this one, by computing
 each : {X : Type 0} (f g : ℕ → X) (d : X) (b : ℕ) →
     map f (range_with_len 1 255) ≡ map g (range_with_len 1 255) → (b ≡ 0 → ⊥) → b < 256 → f b ≡ g b
 each f g d b same some h =
-    sym (get_or-map-range_with_len f 1 255 (b - 1) b d (omega (arith, some)) (omega (arith, some)))
-    ∙ ap (λ w. get_or w (b - 1) d) same
-    ∙ get_or-map-range_with_len g 1 255 (b - 1) b d (omega (arith, some)) (omega (arith, some))
+    each_from 1 255 f g d b same (omega (arith, some)) (omega (arith, h))
 
 -- its value
 byte_value : (b : ℕ) (rest : List ℕ) → (b ≡ 0 → ⊥) → b < 256 →
@@ -86,19 +84,18 @@ all_mean [] h = nothing (34 ∷ [])
 all_mean (b ∷ bytes) h =
     let rest = flat_map escape_ascii bytes ++ 34 ∷ [] in
     more ((escape_ascii b ++ flat_map escape_ascii bytes) ++ 34 ∷ []) rest (34 ∷ []) (b ∷ []) bytes
-    (ap c_unit (append_assoc (escape_ascii b) (flat_map escape_ascii bytes) (34 ∷ []))
-    ∙ byte_value b rest h.0.0 h.0.1) (all_mean bytes h.1)
+    (rw append_assoc (byte_value b rest h.0.0 h.0.1)) (all_mean bytes h.1)
 
 all_no_zero : (bytes : List ℕ) → AreSome bytes →
     has_zero false (flat_map escape_ascii bytes ++ 34 ∷ []) ≡ false
 all_no_zero [] h = refl
 all_no_zero (b ∷ bytes) h =
-    ap (has_zero false) (append_assoc (escape_ascii b) (flat_map escape_ascii bytes) (34 ∷ []))
-    ∙ byte_no_zero b (flat_map escape_ascii bytes ++ 34 ∷ []) h.0.0 h.0.1 ∙ all_no_zero bytes h.1
+    rw (append_assoc, byte_no_zero b (flat_map escape_ascii bytes ++ 34 ∷ []) h.0.0 h.0.1)
+    (all_no_zero bytes h.1)
 
 both_no_null : (xs ys : List ℕ) → has_null xs ≡ false → has_null ys ≡ false →
     has_null (xs ++ ys) ≡ false
-both_no_null xs ys h k = list_any-append (λ c. c == 0) xs ys ∙ ap (λ b. b || has_null ys) h ∙ k
+both_no_null xs ys h k = rw (list_any-append (λ c. c == 0) xs ys, h) k
 
 all_no_null : (bytes : List ℕ) → AreSome bytes → has_null (flat_map escape_ascii bytes) ≡ false
 all_no_null [] h = refl
@@ -123,38 +120,33 @@ module _ (inner : List ℕ) (spelled : Spells (QuotedString C) (99 ∷ 34 ∷ in
   abbrev text : List ℕ
   text = 99 ∷ 34 ∷ inner
 
+  listed : IsFirstFit text (among (Source Edition2021) (beginning start.Prefix)) (QuotedString C)
+      text []
+  listed =
+      later (other_letter 98 _ _ (λ e. omega (arith, e)))
+      (later (no_start _)
+      (later (other_letter 98 _ _ (λ e. omega (arith, e)))
+      (later (other_letter 114 _ _ (λ e. omega (arith, e)))
+      (later (other_letter 98 _ _ (λ e. omega (arith, e)))
+      (later (other_letter 114 _ _ (λ e. omega (arith, e)))
+      (later (other_letter 98 _ _ (λ e. omega (arith, e)))
+      (here (whole (Spells (QuotedString C)) text spelled))))))))
+
   first_fit : (edition : Edition) → reserves_prefixes edition ≡ true →
       IsFirstFit text (rules_of (Source edition)) (QuotedString C) text []
   first_fit Edition2015 h = absurd (false≢true h)
   first_fit Edition2018 h = absurd (false≢true h)
   first_fit Edition2021 h =
-      decides_begun (Source Edition2021) 99 (34 ∷ inner) start.Prefix refl refl
-      (later (other_letter 98 _ _ (λ e. omega (arith, e)))
-      (later (no_start _)
-      (later (other_letter 98 _ _ (λ e. omega (arith, e)))
-      (later (other_letter 114 _ _ (λ e. omega (arith, e)))
-      (later (other_letter 98 _ _ (λ e. omega (arith, e)))
-      (later (other_letter 114 _ _ (λ e. omega (arith, e)))
-      (later (other_letter 98 _ _ (λ e. omega (arith, e)))
-      (here (whole (Spells (QuotedString C)) text spelled)))))))))
+      decides_begun (Source Edition2021) 99 (34 ∷ inner) start.Prefix refl refl listed
   first_fit Edition2024 h =
-      decides_begun (Source Edition2024) 99 (34 ∷ inner) start.Prefix refl refl
-      (later (other_letter 98 _ _ (λ e. omega (arith, e)))
-      (later (no_start _)
-      (later (other_letter 98 _ _ (λ e. omega (arith, e)))
-      (later (other_letter 114 _ _ (λ e. omega (arith, e)))
-      (later (other_letter 98 _ _ (λ e. omega (arith, e)))
-      (later (other_letter 114 _ _ (λ e. omega (arith, e)))
-      (later (other_letter 98 _ _ (λ e. omega (arith, e)))
-      (here (whole (Spells (QuotedString C)) text spelled)))))))))
+      decides_begun (Source Edition2024) 99 (34 ∷ inner) start.Prefix refl refl listed
 
 pub c_strings_are_read : (edition : Edition) (bytes : List ℕ) → reserves_prefixes edition ≡ true →
     AreBytes bytes → HasNoNul bytes →
     let text = chars (bytes_between (codes "c\"") bytes (codes "\"")) in
     IsOnePiece (Source edition) (QuotedString C) text × IsCStrValue text bytes
 c_strings_are_read edition bytes reserves h none =
-    subst (λ w. IsOnePiece (Source edition) (QuotedString C) w × IsCStrValue w bytes)
-    (sym (made 99 34 bytes (omega arith) (omega arith) refl refl h)) (
+    rw (made 99 34 bytes (omega arith) (omega arith) refl refl h) (
       (
         first_fit inner (
           34 ∷ inner,
@@ -195,9 +187,10 @@ c_strings_are_read edition bytes reserves h none =
 
     right : is_wrong C piece ≡ false
     right =
-        ap (λ b. (b || has_misfit C piece) || has_zero false piece)
-        (none_bare piece (has_return piece) (λ e. e) (no_return piece even))
-        ∙ ap (λ b. b || has_zero false piece) (no_misfit piece seen) ∙ all_no_zero bytes some
+        rw (
+          none_bare piece (has_return piece) (λ e. e) (no_return piece even),
+          no_misfit piece seen,
+        ) (all_no_zero bytes some)
 
     unrejected : error_kind (QuotedString C) (Source edition) 0 piece [] ≡ None
     unrejected = rw right refl

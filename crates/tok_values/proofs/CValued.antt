@@ -1,21 +1,20 @@
 -- A C string by the grammar has a value if no character in it is U+0000.
 use Rattle.std.proofs.Common.{◌≡◌, ◌∙◌, ℕ, List, [], ◌∷◌, ◌++◌, Bool, true, false, Some}
-use Rattle.std.proofs.Common.{ap, append_assoc, arith, inl, inr, refl, subst, sym}
-use Rattle.std.specs.Prelude.{◌==◌, ◌||◌, ◌&&◌, encode_utf8_all, if◌then◌else◌}
+use Rattle.std.proofs.Common.{ap, append_assoc, arith, inl, inr, refl, sym}
+use Rattle.std.specs.Prelude.{◌==◌, ◌||◌, encode_utf8_all}
 use Rattle.std.specs.Char.{is_ascii_alphabetic}
 use Rattle.std.specs.List.{list_all}
-use Rattle.std.proofs.lemmas.Bool.{eqb-true, false_from_ne_true, false≢true}
+use Rattle.std.proofs.lemmas.Bool.{and_from, cases_Bool, false≢true, ne_eqb}
 use Rattle.std.proofs.lemmas.List.{append-nil}
 use Rattle.std.proofs.lemmas.List.Folds.{list_any-append}
 use Rattle.unicode_ident.specs.Ident.{is_xid_continue}
 use Rattle.unicode_ident.proofs.IdentLemmas.{is_xid_continue-ascii}
 use Rattle.tok_lexical.specs.Contents.{has_bare_return, has_misfit, has_zero, is_wrong}
-use Rattle.tok_lexical.specs.Pieces.{begins_with, is_neither}
-use Rattle.tok_lexical.specs.Strings.{IsCEscape, is_simple_escape}
+use Rattle.tok_lexical.specs.Pieces.{is_neither}
+use Rattle.tok_lexical.specs.Strings.{IsCEscape}
 use Rattle.tok_lexical.specs.Strings.{code, hex, line_end, simple}
 use Rattle.tok_lexical.specs.Words.{IsSuffix, is_identifier_start}
 use Rattle.tok_lexical.specs.declared.contents.Contents.TheVariants.{C}
-use Rattle.tok_lexical.proofs.EscapedChars.{tails}
 use Rattle.tok_lexical.proofs.Identifiers.{letter_start}
 use Rattle.tok_values.specs.CStrings.{bytes_of, c_unit, names_byte}
 use Rattle.tok_values.specs.Laws.{CStringsHaveValues, RawCStringsHaveValues}
@@ -24,7 +23,8 @@ use Rattle.tok_values.specs.Suffixed.{InRaw, IsCStrValue, IsStringBy}
 use Rattle.tok_values.proofs.Escaped.{Names, all_neither, code_names, hex_names, named_unit}
 use Rattle.tok_values.proofs.Escaped.{neither_of, simple_names}
 use Rattle.tok_values.proofs.Suffixed.{c_quote_stops, c_some, string_once}
-use Rattle.tok_values.proofs.Valued.{Begins, Escapes, Reads, plain_unit, quoted_value, raw_value}
+use Rattle.tok_values.proofs.Valued.{Begins, Escapes, Reads, quoted_value, raw_value}
+use Rattle.tok_values.proofs.Quoted.{plain_unit}
 use Rattle.tok_values.proofs.Zeros.{all_encoded_null, has_null, misfit_null, no_nul, no_null}
 use Rattle.tok_values.proofs.Zeros.{or_end, passed}
 
@@ -39,28 +39,23 @@ Counts text meaning = has_null meaning ≡ zeros text
 joined : (front after text meaning : List ℕ) (z : Bool) → has_null front ≡ z →
     zeros text ≡ (z || zeros after) → Counts after meaning → Counts text (front ++ meaning)
 joined front after text meaning z e f h =
-    list_any-append (λ c. c == 0) front meaning ∙ ap (λ b. b || has_null meaning) e
-    ∙ ap (λ b. z || b) h ∙ sym f
+    rw (list_any-append (λ c. c == 0) front meaning, e, h, f) refl
 
 regroup : (a b c : Bool) → ((a || b) || c) ≡ ((a || false) || (b || c))
-regroup true b c = refl
-regroup false b c = refl
+regroup a b c = grind arith
 
 exchange : (a b c : Bool) → (b || (a || c)) ≡ ((a || false) || (b || c))
-exchange true true c = refl
-exchange true false c = refl
-exchange false b c = refl
+exchange a b c = grind arith
 
 plain_counts : (c : ℕ) (rest : List ℕ) → (c == 34) ≡ false → (c == 92) ≡ false →
     (c == 13) ≡ false → Begins c_unit Counts (c ∷ rest) rest
 plain_counts c rest quote slash return = (
   encode_utf8_all (c ∷ []),
-  c_some (c ∷ rest) (c ∷ []) rest false (sym (ap (λ b. b && begins_with 120 rest) slash))
+  c_some (c ∷ rest) (c ∷ []) rest false (rw slash refl)
       (plain_unit false c rest slash quote return refl),
   λ m h. joined (encode_utf8_all (c ∷ [])) rest (c ∷ rest) m ((c == 0) || false)
       (all_encoded_null (c ∷ []))
-      (ap (λ b. ((c == 0) || has_null rest) || has_zero b rest) slash
-      ∙ regroup (c == 0) (has_null rest) (has_zero false rest)) h,
+      (rw slash (regroup (c == 0) (has_null rest) (has_zero false rest))) h,
 )
 
 feed_counts : (rest : List ℕ) → Begins c_unit Counts (13 ∷ 10 ∷ rest) rest
@@ -83,24 +78,21 @@ named_counts is_byte text rest e n = (
   c_some (92 ∷ (text ++ rest)) (n.char ∷ []) rest is_byte e (named_unit n),
   λ m h. joined (bytes_of is_byte (n.char ∷ [])) rest (92 ∷ (text ++ rest)) m
       ((n.char == 0) || false) (bytes_null is_byte n.char)
-      (ap (λ b. b || has_zero true (text ++ rest)) n.null ∙ ap (λ b. has_null rest || b) n.zero
-      ∙ exchange (n.char == 0) (has_null rest) (has_zero false rest)) h,
+      (rw (n.null, n.zero) (exchange (n.char == 0) (has_null rest) (has_zero false rest))) h,
 )
 
 -- blanks are no U+0000
 blanks_count : (text : List ℕ) → zeros (without_blanks text) ≡ zeros text
 blanks_count [] = refl
-blanks_count (c ∷ text) = at (is_blank c) refl (blanks_count text)
-  where
-    at : (b : Bool) → is_blank c ≡ b → zeros (without_blanks text) ≡ zeros text →
-        zeros (without_blanks (c ∷ text)) ≡ zeros (c ∷ text)
-    at true e again =
-        let other = passed (c ∷ []) text
-        (ap (λ b. b && true) (neither_of 0 92 is_blank refl refl c e)) in
-        ap (λ b. zeros (if b then without_blanks text else c ∷ text)) e ∙ again
-        ∙ ap (λ b. b || has_zero false text) (sym other.0)
-        ∙ ap (λ b. has_null (c ∷ text) || b) (sym other.1)
-    at false e again = ap (λ b. zeros (if b then without_blanks text else c ∷ text)) e
+blanks_count (c ∷ text) =
+    let again = blanks_count text in
+    elim (cases_Bool (is_blank c)) [
+      | inl e ↦
+          let other = passed (c ∷ []) text
+          (and_from _ true (neither_of 0 92 is_blank refl refl c e) refl) in
+          cc (other.0, other.1)
+      | inr e ↦ simp e
+    ]
 
 line_counts : (text rest : List ℕ) →
     c_unit (92 ∷ (text ++ rest)) ≡ Some ([], without_blanks rest) →
@@ -109,22 +101,17 @@ line_counts text rest e f = inr ([], e, λ m h. h ∙ blanks_count rest ∙ sym 
 
 escape_counts : (text rest : List ℕ) → IsCEscape text → Escapes c_unit Counts text rest
 escape_counts text rest (inl (simple c h)) =
-    let other : (c == 120) ≡ false =
-    false_from_ne_true (c == 120) (λ e. false≢true (ap is_simple_escape (sym (eqb-true c 120 e))
-    ∙ h)) in
+    let other : (c == 120) ≡ false = ne_eqb c 120 (λ e. cc) in
     inl (named_counts false (c ∷ []) rest (sym other) (simple_names false c rest h))
 escape_counts text rest (inl (hex {text = digits} h)) =
     inl (named_counts true (120 ∷ digits) rest refl (hex_names true digits rest h))
 escape_counts text rest (inl (code e h)) = absurd (false≢true (sym e))
 escape_counts text rest (inl (line_end e (inl f))) =
-    line_counts text rest (ap (λ w. c_unit (92 ∷ (w ++ rest))) f)
-    (ap (λ w. zeros (92 ∷ (w ++ rest))) f)
+    line_counts text rest (rw f refl) (rw f refl)
 escape_counts text rest (inl (line_end e (inr f))) =
-    line_counts text rest (ap (λ w. c_unit (92 ∷ (w ++ rest))) f)
-    (ap (λ w. zeros (92 ∷ (w ++ rest))) f)
+    line_counts text rest (rw f refl) (rw f refl)
 escape_counts text rest (inr (braced, e, h)) =
-    subst (λ w. Escapes c_unit Counts w rest) (sym e)
-    (inl (named_counts false (117 ∷ braced) rest refl (code_names braced rest h)))
+    rw e (inl (named_counts false (117 ∷ braced) rest refl (code_names braced rest h)))
 
 units : Reads c_unit Counts C (λ c. true)
 units = record {
@@ -139,23 +126,19 @@ all_fit (c ∷ text) = all_fit text
 
 -- a suffix has neither U+0000 nor a backslash
 suffix_other : (suffix : List ℕ) → IsSuffix suffix → list_all (is_neither 0 92) suffix ≡ true
-suffix_other suffix (inl e) = ap (list_all (is_neither 0 92)) e
+suffix_other suffix (inl e) = rw e refl
 suffix_other [] (inr h) = refl
 suffix_other (c ∷ suffix) (inr h) =
-    ap (λ b. b && list_all (is_neither 0 92) suffix)
+    and_from _ _
     (neither_of 0 92 is_identifier_start
     (sym (letter_start 0 (omega arith) (is_ascii_alphabetic 0) refl))
     (sym (letter_start 92 (omega arith) (is_ascii_alphabetic 92) refl)) c h.0)
-    ∙ all_neither 0 92 is_xid_continue (is_xid_continue-ascii 0 (omega arith))
-    (is_xid_continue-ascii 92 (omega arith)) suffix h.1
+    (all_neither 0 92 is_xid_continue (is_xid_continue-ascii 0 (omega arith))
+    (is_xid_continue-ascii 92 (omega arith)) suffix h.1)
 
 suffix_passed : (suffix : List ℕ) → IsSuffix suffix →
     (has_null suffix ≡ false) × (has_zero false suffix ≡ false)
-suffix_passed suffix s =
-    let other = passed suffix [] (suffix_other suffix s) in (
-      ap has_null (sym (append-nil suffix)) ∙ other.0,
-      ap (has_zero false) (sym (append-nil suffix)) ∙ other.1,
-    )
+suffix_passed suffix s = rw append-nil at (passed suffix [] (suffix_other suffix s))
 
 -- after `c`, bytes that a string means are its value if no zero is among them
 module _ (text string bytes : List ℕ) (e : text ≡ 99 ∷ string) (h : IsStringBy c_unit string bytes)
@@ -165,24 +148,20 @@ module _ (text string bytes : List ℕ) (e : text ≡ 99 ∷ string) (h : IsStri
 
     of_value : (value : List ℕ) × IsCStrValue text value → has_null bytes ≡ false
     of_value (value, ((other, f, k), none)) =
-        let same = string_once c_unit c_quote_stops string value bytes
-        (subst (λ w. IsStringBy c_unit w value) (tails 99 99 other string (sym f ∙ e)) k) h in
-        ap has_null (sym same) ∙ no_null value none
+        let same : other ≡ string = cc in
+        rw (← string_once c_unit c_quote_stops string value bytes (rw same at k) h)
+        (no_null value none)
 
 pub c_strings_have_values : CStringsHaveValues
 c_strings_have_values text (string, e, (body, suffix, f, us, s)) kept =
     let cut : text ≡ 99 ∷ 34 ∷ (body ++ 34 ∷ suffix) = e ∙ ap (λ w. 99 ∷ w) f in
     let none = suffix_passed suffix s in
-    let ends : Counts (34 ∷ suffix) [] =
-    sym (ap (λ b. b || has_zero false suffix) none.0 ∙ none.1) in
+    let ends : Counts (34 ∷ suffix) [] = cc (none.0, none.1) in
     let (meaning, means, read, counts) = quoted_value C c_unit (λ c. true) Counts units suffix ends
     string body f us s
     (record { fit = all_fit body; kept = ap has_bare_return (sym cut) ∙ kept }) in
     let counted : is_wrong C text ≡ has_null meaning =
-    ap (λ b. (b || has_misfit C text) || has_zero false text) kept
-    ∙ ap (λ w. has_misfit C w || has_zero false w) cut
-    ∙ ap (λ b. b || has_zero false (body ++ 34 ∷ suffix)) (misfit_null body suffix none.0)
-    ∙ sym counts in (
+    cc (kept, cut, misfit_null body suffix none.0, counts) in (
       λ h. counted ∙ of_value text string meaning e (inl read) h,
       λ right. has_value text string meaning e (inl read) (sym counted ∙ right),
     )

@@ -1,13 +1,12 @@
 -- The text of a made character literal is read as one, and its value is the character.
 use Rattle.std.proofs.Common.{◌≡◌, ◌∙◌, ℕ, List, [], ◌∷◌, ◌++◌, Some, Bool, true, false, refl}
-use Rattle.std.proofs.Common.{sym, ap, subst, inl, inr, eqb-true, ◌<◌, zero, suc, arith}
+use Rattle.std.proofs.Common.{sym, ap, inl, inr, eqb-true, arith}
 use Rattle.std.specs.Prelude.{◌==◌, if◌then◌else◌, codes, encode_utf8_all}
-use Rattle.std.specs.Prelude.{Option}
 use Rattle.std.specs.Char.{IsScalar}
-use Rattle.std.specs.Str.{IsAscii, chars}
+use Rattle.std.specs.Str.{chars}
 use lib.Utf8.{scalars}
-use Rattle.std.proofs.lemmas.Bool.{and_from}
-use Rattle.std.proofs.lemmas.Str.{chars-encodes, encodes-IsAscii, encodes-append}
+use Rattle.std.proofs.lemmas.Bool.{and_from, cond_both, eqb-false, false≢true}
+use Rattle.std.proofs.lemmas.Str.{chars-encodes, encodes-append}
 use Rattle.tok_lexical.specs.Fits.{here, later}
 use Rattle.tok_lexical.specs.Pieces.{HasPrefix}
 use Rattle.tok_lexical.specs.Rules.{Spells}
@@ -19,21 +18,13 @@ use Rattle.tok_lexical.proofs.First.{decides_begun}
 use Rattle.tok_leaves.specs.Quoting.{in_apostrophes}
 use Rattle.tok_values.specs.Laws.{IsOneChar}
 use Rattle.tok_values.specs.Strings.{IsCharValue, one_char}
-use Rattle.tok_values.proofs.Quoted.{encodes_escape, one_scalars, pick_scalars, scalars-append, two}
-use Rattle.tok_values.proofs.Quoted.{written}
-use Rattle.tok_values.proofs.Read.{other, pick}
+use Rattle.tok_values.proofs.Quoted.{encodes_escape, one_byte, one_scalars, scalars-append, two}
+use Rattle.tok_values.proofs.Quoted.{written, written_cases}
 use Rattle.tok_values.proofs.Written.{whole}
 
 -- what is between the apostrophes
 abbrev between : ℕ → List ℕ
 between c = if c == 39 then 92 ∷ 39 ∷ [] else if c == 34 then 34 ∷ [] else written c
-
-pub one_byte : (c : ℕ) → c < 128 → encode_utf8_all (c ∷ []) ≡ c ∷ []
-one_byte c h = encodes-IsAscii (c ∷ []) ascii
-  where
-    ascii : IsAscii (c ∷ [])
-    ascii zero = h
-    ascii (suc i) = omega arith
 
 apostrophe_bytes : encode_utf8_all (39 ∷ []) ≡ codes "'"
 apostrophe_bytes = one_byte 39 (omega arith)
@@ -42,10 +33,7 @@ apostrophe_bytes = one_byte 39 (omega arith)
 around : (x u : List ℕ) → encode_utf8_all x ≡ u →
     encode_utf8_all (39 ∷ (x ++ 39 ∷ [])) ≡ codes "'" ++ (u ++ codes "'")
 around x u e =
-    encodes-append (39 ∷ []) (x ++ 39 ∷ [])
-    ∙ ap (λ w. w ++ encode_utf8_all (x ++ 39 ∷ [])) apostrophe_bytes
-    ∙ ap (λ w. codes "'" ++ w) (encodes-append x (39 ∷ [])
-    ∙ ap (λ w. w ++ encode_utf8_all (39 ∷ [])) e ∙ ap (λ w. u ++ w) apostrophe_bytes)
+    cc (encodes-append (39 ∷ []) (x ++ 39 ∷ []), apostrophe_bytes, encodes-append x (39 ∷ []))
 
 pick_bytes : (b : Bool) (x y u v : List ℕ) → encode_utf8_all (39 ∷ (x ++ 39 ∷ [])) ≡ u →
     encode_utf8_all (39 ∷ (y ++ 39 ∷ [])) ≡ v →
@@ -60,8 +48,9 @@ encoded c =
     (around (written c) _ (encodes_escape c)))
 
 between_scalars : (c : ℕ) → scalars (c ∷ []) ≡ true → scalars (between c) ≡ true
-between_scalars c h = pick_scalars (c == 39) _ _ refl (pick_scalars (c == 34) _ _ refl
-    (one_scalars c h))
+between_scalars c h =
+    cond_both (c == 39) _ _ (λ w. scalars w ≡ true) (λ _. refl)
+    (λ _. cond_both (c == 34) _ _ (λ w. scalars w ≡ true) (λ _. refl) (λ _. one_scalars c h))
 
 chars_between : (c : ℕ) → IsScalar c → chars (in_apostrophes c) ≡ 39 ∷ (between c ++ 39 ∷ [])
 chars_between c h =
@@ -75,23 +64,20 @@ chars_between c h =
 abbrev HasValue : ℕ → List ℕ → Type 0
 HasValue c x = one_char false (x ++ 39 ∷ []) ≡ Some (c, 39 ∷ [])
 
-abbrev some_char : ℕ → Option (ℕ × List ℕ)
-some_char n = Some (n, 39 ∷ [])
-
-found : (c n : ℕ) → (c == n) ≡ true → some_char n ≡ some_char c
-found c n e = ap some_char (sym (eqb-true c n e))
+-- what holds of each escape, and of each other character, holds of what is between
+between_cases : (P : ℕ → List ℕ → Type 0) → P 39 (92 ∷ 39 ∷ []) → P 34 (34 ∷ []) →
+    P 92 (92 ∷ 92 ∷ []) → P 10 (92 ∷ 110 ∷ []) → P 13 (92 ∷ 114 ∷ []) → P 9 (92 ∷ 116 ∷ []) →
+    P 0 (92 ∷ 48 ∷ []) →
+    ((c : ℕ) → (c == 92) ≡ false → is_char c ≡ true → P c (c ∷ [])) → (c : ℕ) → P c (between c)
+between_cases P single double slash feed return tab nul plain c =
+    cond_both (c == 39) _ _ (P c) (λ e. rw (eqb-true c 39 e) single)
+    (λ a. cond_both (c == 34) _ _ (P c) (λ e. rw (eqb-true c 34 e) double)
+    (λ d. written_cases (λ n w. (n == 39) ≡ false → (n == 34) ≡ false → P n w)
+    (λ _ h. absurd (false≢true (sym h))) (λ _ _. slash) (λ _ _. feed) (λ _ _. return) (λ _ _. tab)
+    (λ _ _. nul) (λ n q s f r t _ b _. plain n s (simp (s, b, t, f, r))) c a d))
 
 value : (c : ℕ) → HasValue c (between c)
-value c =
-    pick (HasValue c) (c == 39) _ _ (found c 39)
-    (λ single. pick (HasValue c) (c == 34) _ _ (found c 34)
-    (λ double. pick (HasValue c) (c == 34) _ _ (found c 34)
-    (λ quote. pick (HasValue c) (c == 92) _ _ (found c 92)
-    (λ slash. pick (HasValue c) (c == 10) _ _ (found c 10)
-    (λ feed. pick (HasValue c) (c == 13) _ _ (found c 13)
-    (λ return. pick (HasValue c) (c == 9) _ _ (found c 9)
-    (λ tab. pick (HasValue c) (c == 0) _ _ (found c 0)
-    (λ nul. rw (slash, single, tab, feed, return) refl))))))))
+value = between_cases HasValue refl refl refl refl refl refl refl (λ c slash h. cc)
 
 -- one piece
 module _ (mode : Mode) where
@@ -127,22 +113,17 @@ module _ (mode : Mode) where
           n cc
 
   one_piece : (c : ℕ) → IsPiece (between c)
-  one_piece c =
-      pick IsPiece (c == 39) _ _ (λ e. escaped_piece 39 (simple 39 refl))
-      (λ single. pick IsPiece (c == 34) _ _ (λ e. plain_piece 34 refl (λ k. omega (arith, k)))
-      (λ double. pick IsPiece (c == 34) _ _ (λ e. escaped_piece 34 (simple 34 refl))
-      (λ quote. pick IsPiece (c == 92) _ _ (λ e. escaped_piece 92 (simple 92 refl))
-      (λ slash. pick IsPiece (c == 10) _ _ (λ e. escaped_piece 110 (simple 110 refl))
-      (λ feed. pick IsPiece (c == 13) _ _ (λ e. escaped_piece 114 (simple 114 refl))
-      (λ return. pick IsPiece (c == 9) _ _ (λ e. escaped_piece 116 (simple 116 refl))
-      (λ tab. pick IsPiece (c == 0) _ _ (λ e. escaped_piece 48 (simple 48 refl))
-      (λ nul. plain_piece c (rw (slash, single, tab, feed, return) refl) (other c 92 slash)))))))))
+  one_piece =
+      between_cases (λ _. IsPiece) (escaped_piece 39 (simple 39 refl))
+      (plain_piece 34 refl (λ k. omega (arith, k))) (escaped_piece 92 (simple 92 refl))
+      (escaped_piece 110 (simple 110 refl)) (escaped_piece 114 (simple 114 refl))
+      (escaped_piece 116 (simple 116 refl)) (escaped_piece 48 (simple 48 refl))
+      (λ c slash h. plain_piece c h (eqb-false c 92 slash))
 
 pub characters_are_read : (mode : Mode) (c : ℕ) → IsScalar c →
     IsOneChar mode (chars (in_apostrophes c)) × IsCharValue (chars (in_apostrophes c)) c
 characters_are_read mode c h =
-    let text = sym (chars_between c h) in (
-      subst (IsOneChar mode) text (one_piece mode c),
-      subst (λ w. IsCharValue w c) text
-          (between c ++ 39 ∷ [], refl, (39 ∷ [], value c, ([], refl, refl))),
+    rw (chars_between c h) (
+      one_piece mode c,
+      (between c ++ 39 ∷ [], refl, (39 ∷ [], value c, ([], refl, refl))),
     )

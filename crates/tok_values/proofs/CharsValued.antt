@@ -1,14 +1,13 @@
 -- A character or a byte literal by the grammar has a value.
-use Rattle.std.proofs.Common.{◌≡◌, ◌∙◌, ℕ, List, [], ◌∷◌, ◌++◌, Bool, true, false, None, Some}
-use Rattle.std.proofs.Common.{ap, arith, inl, inr, refl, subst, sym}
-use Rattle.std.specs.Prelude.{◌==◌, ◌&&◌, if◌then◌else◌, nat_le, nat_lt, not}
-use Rattle.std.proofs.lemmas.Bool.{and_from, and_parts, eqb-true, false_from_ne_true, false≢true}
-use Rattle.std.proofs.lemmas.Bool.{leb-true, ltb-true}
+use Rattle.std.proofs.Common.{◌≡◌, ℕ, List, [], ◌∷◌, ◌++◌, Bool, true, false, Some}
+use Rattle.std.proofs.Common.{arith, inl, inr, refl}
+use Rattle.std.specs.Prelude.{◌==◌, ◌&&◌, nat_le, nat_lt, not}
+use Rattle.std.proofs.lemmas.Bool.{and_from, and_parts, false≢true, ne_eqb}
+use Rattle.std.proofs.lemmas.Bool.Decides.{nat_tests}
 use Rattle.tok_lexical.specs.Pieces.{After}
 use Rattle.tok_lexical.specs.Strings.{IsByte, IsChar, IsEscape, IsQuoted, code, hex}
 use Rattle.tok_lexical.specs.Strings.{is_char, line_end, simple}
 use Rattle.tok_lexical.specs.Words.{IsSuffix}
-use Rattle.tok_values.specs.Escapes.{escape}
 use Rattle.tok_values.specs.Laws.{BytesHaveValues, CharactersHaveValues}
 use Rattle.tok_values.specs.Strings.{InApostrophes, one_char}
 use Rattle.tok_values.proofs.Escaped.{Names, code_names, hex_names, simple_names}
@@ -20,28 +19,21 @@ IsOneOf wide inner rest = (c : ℕ) × (one_char wide (inner ++ rest) ≡ Some (
 alone : (wide : Bool) (c : ℕ) (inner rest : List ℕ) → inner ≡ c ∷ [] →
     (is_char c && not (wide && nat_le 128 c)) ≡ true → IsOneOf wide inner rest
 alone wide c inner rest e h =
-    let slash : (c == 92) ≡ false =
-    false_from_ne_true (c == 92) (λ k. false≢true (ap is_char (sym (eqb-true c 92 k))
-    ∙ (and_parts (is_char c) _ h).0)) in (
-      c,
-      ap (λ w. one_char wide (w ++ rest)) e
-          ∙ ap (λ b. if b then escape wide rest else
-          if is_char c && not (wide && nat_le 128 c) then Some (c, rest) else None) slash
-          ∙ ap (λ b. if b then Some (c, rest) else None) h,
-    )
+    let char = (and_parts (is_char c) _ h).0 in
+    let slash : (c == 92) ≡ false = ne_eqb c 92 (λ k. absurd (cc)) in (c, cc)
 
 any_escape : (wide : Bool) (text rest : List ℕ) → IsEscape false wide text → Names wide text rest
 any_escape wide text rest (simple c h) = simple_names wide c rest h
 any_escape wide text rest (hex {text = digits} h) = hex_names wide digits rest h
 any_escape wide text rest (code {text = braced} e h) =
-    subst (λ b. Names b (117 ∷ braced) rest) (sym e) (code_names braced rest h)
+    rw e (code_names braced rest h)
 any_escape wide text rest (line_end e h) = absurd (false≢true e)
 
 escaped : (wide : Bool) (inner rest : List ℕ) → After 92 (IsEscape false wide) inner →
     IsOneOf wide inner rest
 escaped wide inner rest (text, e, h) =
     let n = any_escape wide text rest h in
-    (n.char, ap (λ w. one_char wide (w ++ rest)) e ∙ n.is)
+    (n.char, rw e n.is)
 
 -- within apostrophes
 quoted : (wide : Bool) (Inner : List ℕ → Type 0) →
@@ -59,11 +51,7 @@ characters_have_values text h = quoted false IsChar reads text h
     reads inner rest (inr h) = escaped false inner rest h
 
 narrow : (c : ℕ) → nat_lt c 128 ≡ true → not (nat_le 128 c) ≡ true
-narrow c h =
-    ap not (false_from_ne_true (nat_le 128 c) (λ e.
-    let l = ltb-true c 128 h in
-    let m = leb-true 128 c e in
-    absurd (omega (arith, l, m))))
+narrow c h = grind (arith, nat_tests)
 
 pub bytes_have_values : BytesHaveValues
 bytes_have_values text (string, e, h) =

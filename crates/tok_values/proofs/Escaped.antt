@@ -1,40 +1,32 @@
 -- What an escape of the grammar names: a character.
 use Rattle.std.proofs.Common.{◌≡◌, ◌∙◌, ◌⊎◌, ◌+◌, ◌*◌, ℕ, List, [], ◌∷◌, ◌++◌, Bool, None, Some}
-use Rattle.std.proofs.Common.{true, false, ap, append_assoc, inl, inr, refl, subst, sym}
-use Rattle.std.specs.Prelude.{◌==◌, ◌||◌, ◌&&◌, if◌then◌else◌, nat_lt, not}
+use Rattle.std.proofs.Common.{arith, true, false, ap, append_assoc, inl, inr, refl, sym}
+use Rattle.std.specs.Prelude.{◌==◌, ◌||◌, ◌&&◌, if◌then◌else◌, nat_lt}
 use Rattle.std.specs.Char.{digit_value, is_digit}
 use Rattle.std.specs.List.{list_all}
-use Rattle.std.proofs.lemmas.Bool.{and_from, and_parts, eqb-true, false≢true}
+use Rattle.std.proofs.lemmas.Bool.{and_from, ne_eqb, or_left}
+use Rattle.std.proofs.lemmas.Bool.Decides.{nat_tests}
 use Rattle.tok_lexical.specs.Contents.{has_zero}
-use Rattle.tok_lexical.specs.Numbers.{has_digit, is_digit_or_underscore}
 use Rattle.tok_lexical.specs.Pieces.{is_neither}
 use Rattle.tok_lexical.specs.Strings.{IsCode, IsHex, is_hex_or_underscore, is_simple_escape}
-use Rattle.tok_values.specs.Escapes.{and_rest, char_of, escape, named_char}
-use Rattle.tok_values.specs.Numbers.{number}
-use Rattle.tok_values.specs.Strings.{alone, ends_line, unit, without_blanks}
+use Rattle.tok_values.specs.Escapes.{and_rest, escape, named_char}
+use Rattle.tok_values.specs.Numbers.{is_digits, number}
+use Rattle.tok_values.specs.Strings.{ends_line, unit}
 use Rattle.tok_values.proofs.Codes.{code_closed}
 use Rattle.tok_values.proofs.Zeros.{code_zero, digits_zero, has_null, or_end, passed}
-
-pub either_is : (a b : Bool) → (a || b) ≡ true → (a ≡ true) ⊎ (b ≡ true)
-either_is true b h = inl refl
-either_is false b h = inr h
+use Rattle.tok_values.proofs.Passing.{all_pass}
 
 -- characters of a class that two characters aren't in
 pub neither_of : (a b : ℕ) (p : ℕ → Bool) → p a ≡ false → p b ≡ false → (c : ℕ) → p c ≡ true →
     is_neither a b c ≡ true
-neither_of a b p e f c h = at (c == a) (c == b) refl refl
-  where
-    at : (x y : Bool) → (c == a) ≡ x → (c == b) ≡ y → not (x || y) ≡ true
-    at true y g k = absurd (false≢true (sym e ∙ ap p (sym (eqb-true c a g)) ∙ h))
-    at false true g k = absurd (false≢true (sym f ∙ ap p (sym (eqb-true c b k)) ∙ h))
-    at false false g k = refl
+neither_of a b p e f c h =
+    let first : (c == a) ≡ false = ne_eqb c a (λ g. cc) in
+    let second : (c == b) ≡ false = ne_eqb c b (λ g. cc) in
+    simp (first, second)
 
 pub all_neither : (a b : ℕ) (p : ℕ → Bool) → p a ≡ false → p b ≡ false → (text : List ℕ) →
     list_all p text ≡ true → list_all (is_neither a b) text ≡ true
-all_neither a b p e f [] h = refl
-all_neither a b p e f (c ∷ text) h =
-    let both = and_parts (p c) (list_all p text) h in
-    and_from _ _ (neither_of a b p e f c both.0) (all_neither a b p e f text both.1)
+all_neither a b p e f = all_pass p (is_neither a b) (neither_of a b p e f)
 
 -- after a backslash this text names a character, and the rest is after it
 pub record Names (wide : Bool) (text rest : List ℕ) : Type 0 where
@@ -48,39 +40,31 @@ pub record Names (wide : Bool) (text rest : List ℕ) : Type 0 where
 pub named_unit : {wide : Bool} {text rest : List ℕ} → (n : Names wide text rest) →
     unit wide (92 ∷ (text ++ rest)) ≡ Some (n.char ∷ [], rest)
 named_unit {wide} {text} {rest} n =
-    ap (λ b. if b then Some ([], without_blanks (text ++ rest)) else alone
-    (escape wide (text ++ rest))) n.in_line ∙ ap alone n.is
+    simp (n.in_line, n.is)
+
+simple_cases : (c : ℕ) → is_simple_escape c ≡ true →
+    (c ≡ 34) ⊎ ((c ≡ 39) ⊎ ((c ≡ 48) ⊎ ((c ≡ 92) ⊎ ((c ≡ 116) ⊎ ((c ≡ 110) ⊎ (c ≡ 114))))))
+simple_cases c h = grind (arith, nat_tests)
 
 pub simple_names : (wide : Bool) (c : ℕ) (rest : List ℕ) → is_simple_escape c ≡ true →
     Names wide (c ∷ []) rest
 simple_names wide c rest h =
-    elim (either_is _ (c == 34) h) [
-      | inr e ↦ by 34 34 e refl refl refl refl
-      | inl h ↦ elim (either_is _ (c == 39) h) [
-        | inr e ↦ by 39 39 e refl refl refl refl
-        | inl h ↦ elim (either_is _ (c == 48) h) [
-          | inr e ↦ by 48 0 e refl refl refl refl
-          | inl h ↦ elim (either_is _ (c == 92) h) [
-            | inr e ↦ by 92 92 e refl refl refl refl
-            | inl h ↦ elim (either_is _ (c == 116) h) [
-              | inr e ↦ by 116 9 e refl refl refl refl
-              | inl h ↦ elim (either_is (c == 110) (c == 114) h) [
-                | inl e ↦ by 110 10 e refl refl refl refl
-                | inr e ↦ by 114 13 e refl refl refl refl
-              ]
-            ]
-          ]
-        ]
-      ]
+    elim (simple_cases c h) [
+      | inl e ↦ by 34 34 e refl refl refl refl
+      | inr (inl e) ↦ by 39 39 e refl refl refl refl
+      | inr (inr (inl e)) ↦ by 48 0 e refl refl refl refl
+      | inr (inr (inr (inl e))) ↦ by 92 92 e refl refl refl refl
+      | inr (inr (inr (inr (inl e)))) ↦ by 116 9 e refl refl refl refl
+      | inr (inr (inr (inr (inr (inl e))))) ↦ by 110 10 e refl refl refl refl
+      | inr (inr (inr (inr (inr (inr e))))) ↦ by 114 13 e refl refl refl refl
     ]
   where
-    by : (d char : ℕ) → (c == d) ≡ true → escape wide (d ∷ rest) ≡ Some (char, rest) →
+    by : (d char : ℕ) → c ≡ d → escape wide (d ∷ rest) ≡ Some (char, rest) →
         ends_line (d ∷ rest) ≡ false →
         has_zero true (d ∷ rest) ≡ ((char == 0) || has_zero false rest) →
         has_null (d ∷ rest) ≡ has_null rest → Names wide (c ∷ []) rest
     by d char e is in_line zero null =
-        subst (λ k. Names wide (k ∷ []) rest) (sym (eqb-true c d e))
-        (record { char = char; is = is; in_line = in_line; zero = zero; null = null })
+        rw e (record { char = char; is = is; in_line = in_line; zero = zero; null = null })
 
 -- the least character that is no digit
 no_digit : (wide : Bool) → nat_lt 36 (if wide then 16 else 8) ≡ false
@@ -91,7 +75,6 @@ pub hex_names : (wide : Bool) (text rest : List ℕ) → IsHex (if wide then 16 
     Names wide (120 ∷ text) rest
 hex_names wide text rest (high, low, e, h, l) =
     let n : ℕ = digit_value high * 16 + digit_value low in
-    let pair : ℕ × List ℕ = (n, rest) in
     let digits : List ℕ = high ∷ low ∷ [] in
     let other = passed digits rest (and_from _ _
     (neither_of 0 92 (λ c. is_digit c (if wide then 16 else 8)) (no_digit wide) (no_digit wide) high
@@ -100,28 +83,20 @@ hex_names wide text rest (high, low, e, h, l) =
     let zeros : ((((high == 48) && (low == 48)) || false) ≡ (n == 0)) =
     or_end ((high == 48) && (low == 48)) ∙ sym (digits_zero high low) in record {
       char = n;
-      is =
-          ap (λ t. escape wide (120 ∷ (t ++ rest))) e
-          ∙ ap (λ b. if b && is_digit low 16 then Some pair else None) h
-          ∙ ap (λ b. if b then Some pair else None) l;
+      is = simp (e, h, l);
       in_line = refl;
-      zero =
-          ap (λ t. has_zero true (120 ∷ (t ++ rest))) e
-          ∙ ap (λ b. b || has_zero false (digits ++ rest)) zeros
-          ∙ ap (λ b. (n == 0) || b) other.1;
-      null = ap (λ t. has_null (t ++ rest)) e ∙ other.0;
+      zero = cc (zeros, other.1);
+      null = cc (other.0);
     }
 
 pub code_names : (text rest : List ℕ) → IsCode text → Names false (117 ∷ text) rest
 code_names text rest (first, digits, e, h, all, names) =
     let value : ℕ = number 16 (first ∷ digits) in
-    let named : named_char (first ∷ digits) ≡ Some value =
-    ap (λ b. if (b || has_digit 16 digits) && ((b || (first == 95)) && list_all
-    (is_digit_or_underscore 16) digits) then char_of value else None) h
-    ∙ ap (λ b. if b then char_of value else None) all
-    ∙ ap (λ b. if b then Some value else None) names.scalar in
     let hex : list_all is_hex_or_underscore (first ∷ digits) ≡ true =
-    and_from _ _ (ap (λ b. b || (first == 95)) h) all in
+    and_from _ _ (or_left _ _ h) all in
+    let are : is_digits 16 (first ∷ digits) ≡ true = and_from _ _ (or_left _ _ h) hex in
+    let named : named_char (first ∷ digits) ≡ Some value =
+    simp are (ap (λ b. if b then Some value else None) names.scalar) in
     let after : List ℕ = first ∷ (digits ++ 125 ∷ rest) in
     let other = passed (first ∷ digits) (125 ∷ rest)
     (all_neither 0 92 is_hex_or_underscore refl refl (first ∷ digits) hex) in

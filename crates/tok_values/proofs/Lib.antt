@@ -9,14 +9,17 @@ mod CharsValued
 mod Codes
 mod Digits
 mod Endings
+mod Ends
 mod Escaped
 mod FloatEndings
 mod FloatKinds
 mod FloatValues
 mod Fronts
+mod Letters
 mod MadeIntegers
 mod Numerals
 mod OneValue
+mod Passing
 mod Quoted
 mod RawStrings
 mod Read

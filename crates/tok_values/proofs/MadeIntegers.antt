@@ -1,9 +1,9 @@
 -- The text of a made integer literal is read as one, and its value is the number.
 use Rattle.std.proofs.Common.{◌≡◌, ◌∙◌, ℕ, ◌+◌, ◌*◌, ◌-◌, ◌^◌, ◌<◌, ◌≤◌, List, [], ◌∷◌, ◌++◌}
-use Rattle.std.proofs.Common.{None, Bool, true, false, refl, sym, ap, subst, arith, inl, inr}
+use Rattle.std.proofs.Common.{None, Bool, true, false, refl, sym, ap, arith, inl, inr}
 use Rattle.std.proofs.Common.{get_or}
 use Rattle.std.proofs.Common.{length}
-use Rattle.std.specs.Prelude.{◌==◌, ◌||◌, ◌&&◌, fold, if◌then◌else◌, map, nat_lt}
+use Rattle.std.specs.Prelude.{◌==◌, ◌&&◌, fold, map, nat_lt}
 use Rattle.std.specs.Char.{digit_value, is_ascii_alphabetic, is_ascii_alphanumeric, is_digit}
 use Rattle.std.specs.Fmt.{decimal}
 use Rattle.std.specs.List.{list_all, range_with_len}
@@ -11,7 +11,7 @@ use Rattle.std.specs.Str.{IsAscii, chars}
 use Rattle.std.specs.Str.Parse.{AllDigits, digits_value, digits_value_after}
 use Rattle.unicode_ident.specs.Ident.{is_xid_continue}
 use Rattle.unicode_ident.proofs.IdentLemmas.{is_xid_continue-ascii}
-use Rattle.std.proofs.lemmas.Bool.{and_from, and_parts, eqb-true, false≢true, lt-ltb, ltb-true}
+use Rattle.std.proofs.lemmas.Bool.{and_from, and_parts, and_right, eqb-false, eqb-true, false≢true, lt-ltb, ltb-true, or_left}
 use Rattle.std.proofs.lemmas.Bool.Decides.{nat_tests}
 use Rattle.std.proofs.lemmas.Fmt.{decimal_is_IsNumeral_wide}
 use Rattle.std.proofs.lemmas.List.{append-nil}
@@ -21,7 +21,7 @@ use Rattle.std.proofs.lemmas.Str.Ascii.{IsAscii-cons, IsAscii-nil}
 use Rattle.tok_lexical.specs.Errors.{error_kind}
 use Rattle.tok_lexical.specs.Fits.{IsFirstFit, here}
 use Rattle.tok_lexical.specs.Floats.{IsFloatTail}
-use Rattle.tok_lexical.specs.Numbers.{IsNumberSuffix, has_digit, is_bare, is_digit_or_underscore}
+use Rattle.tok_lexical.specs.Numbers.{IsNumberSuffix, is_bare, is_digit_or_underscore}
 use Rattle.tok_lexical.specs.Numbers.{is_exponent, starts_number_suffix}
 use Rattle.tok_lexical.specs.Pieces.{HasPrefix, Skips, Stops, begins_with}
 use Rattle.tok_lexical.specs.Private.Starts.{names_base, start_of}
@@ -39,10 +39,11 @@ use Rattle.tok_leaves.specs.declared.integer_type.IntegerType.{IntegerType}
 use Rattle.tok_leaves.specs.declared.integer_type.IntegerType.TheVariants.{I8, I16, I32, I64, I128}
 use Rattle.tok_leaves.specs.declared.integer_type.IntegerType.TheVariants.{Isize, U8, U16, U32, U64}
 use Rattle.tok_leaves.specs.declared.integer_type.IntegerType.TheVariants.{U128, Usize}
-use Rattle.tok_values.specs.Integers.{IsDigits, IsInteger, IsIntegerSuffix, base_of}
+use Rattle.tok_values.specs.Integers.{IsInteger, IsIntegerSuffix, base_of}
 use Rattle.tok_values.specs.Laws.{IsOnePiece}
 use Rattle.tok_values.proofs.Digits.{step}
 use Rattle.tok_values.proofs.Written.{whole}
+use Rattle.tok_values.proofs.Passing.{all_ascii, all_pass}
 
 -- digits and nothing else
 abbrev AreDigits : List ℕ → Type 0
@@ -53,20 +54,16 @@ are_digits [] h = refl
 are_digits (c ∷ digits) h =
     and_from _ _ (lt-ltb (digit_value c) 10 h.0) (are_digits digits h.1)
 
-all_pass : (digits : List ℕ) → AreDigits digits →
+digits_pass : (digits : List ℕ) → AreDigits digits →
     list_all (is_digit_or_underscore 10) digits ≡ true
-all_pass [] h = refl
-all_pass (c ∷ digits) h =
-    let both = and_parts (is_digit c 10) _ h in
-    and_from _ _ (ap (λ b. b || (c == 95)) both.0) (all_pass digits both.1)
+digits_pass = all_pass (λ c. is_digit c 10) (is_digit_or_underscore 10) (λ c h. or_left _ _ h)
 
 number_is : (digits : List ℕ) (n : ℕ) → AreDigits digits →
     fold (step 10) n digits ≡ digits_value_after 10 n digits
 number_is [] n h = refl
 number_is (c ∷ digits) n h =
     let both = and_parts (is_digit c 10) _ h in
-    ap (λ b. fold (step 10) (if b then n * 10 + digit_value c else n) digits) both.0
-    ∙ number_is digits (n * 10 + digit_value c) both.1
+    cc (number_is digits (n * 10 + digit_value c) both.1)
 
 digit_low : (c : ℕ) → is_digit c 10 ≡ true → c < 58
 digit_low c p = grind (arith, nat_tests)
@@ -75,18 +72,15 @@ digit_high : (c : ℕ) → is_digit c 10 ≡ true → 48 ≤ c
 digit_high c p = grind (arith, nat_tests)
 
 digits_ascii : (digits : List ℕ) → AreDigits digits → IsAscii digits
-digits_ascii [] h = IsAscii-nil
-digits_ascii (c ∷ digits) h =
-    let both = and_parts (is_digit c 10) _ h in
-    let low = digit_low c both.0 in
-    IsAscii-cons c digits (omega arith) (digits_ascii digits both.1)
+digits_ascii =
+    all_ascii (λ c. is_digit c 10) (λ c p. let low = digit_low c p in omega (arith, low))
 
 -- what a digit begins
 start_digit : (c : ℕ) → is_digit c 10 ≡ true → (c == 48) ≡ false → start_of c ≡ start.Digit
 start_digit c p other =
     let low = digit_low c p in
     let high = digit_high c p in
-    let some : (c ≡ 48 → ⊥) = λ e. false≢true (sym other ∙ ap (λ d. d == 48) e) in
+    let some = eqb-false c 48 other in
     sym (get_or-map-range_with_len start_of 49 9 (c - 49) c start.Rest (omega (arith, some))
     (omega (arith, some)))
     ∙ ap (λ w. get_or w (c - 49) start.Rest) {y = map (λ _. start.Digit) (range_with_len 49 9)} refl
@@ -94,32 +88,15 @@ start_digit c p other =
     (omega (arith, some))
 
 digit_no_base : (c : ℕ) (rest : List ℕ) → is_digit c 10 ≡ true → names_base (c ∷ rest) ≡ false
-digit_no_base c rest p = at (c == 120) (c == 111) (c == 98) refl refl refl
-  where
-    at : (x o b : Bool) → (c == 120) ≡ x → (c == 111) ≡ o → (c == 98) ≡ b → (x || (o || b)) ≡ false
-    at true o b e f g = absurd (false≢true (ap (λ d. is_digit d 10) (sym (eqb-true c 120 e)) ∙ p))
-    at false true b e f g =
-        absurd (false≢true (ap (λ d. is_digit d 10) (sym (eqb-true c 111 f)) ∙ p))
-    at false false true e f g =
-        absurd (false≢true (ap (λ d. is_digit d 10) (sym (eqb-true c 98 g)) ∙ p))
-    at false false false e f g = refl
+digit_no_base c rest p = grind (arith, nat_tests)
 
-abbrev pair : ℕ → List ℕ → ℕ × List ℕ
-pair n rest = (n, rest)
+second_ten : (c d : ℕ) (rest : List ℕ) → names_base (d ∷ rest) ≡ false →
+    base_of (c ∷ d ∷ rest) ≡ (10, c ∷ d ∷ rest)
+second_ten c d rest h = grind arith
 
 base_ten : (c : ℕ) (rest : List ℕ) → names_base rest ≡ false → base_of (c ∷ rest) ≡ (10, c ∷ rest)
 base_ten c [] h = refl
-base_ten c (d ∷ rest) h = at (c == 48) (d == 120) (d == 111) (d == 98) h
-  where
-    at : (z x o b : Bool) → (x || (o || b)) ≡ false →
-        (if z && x then pair 16 rest else
-        if z && o then pair 8 rest else
-        if z && b then pair 2 rest else pair 10 (c ∷ d ∷ rest)) ≡ pair 10 (c ∷ d ∷ rest)
-    at true true o b e = absurd (false≢true (sym e))
-    at true false true b e = absurd (false≢true (sym e))
-    at true false false true e = absurd (false≢true (sym e))
-    at true false false false e = refl
-    at false x o b e = refl
+base_ten c (d ∷ rest) h = second_ten c d rest h
 
 -- what may follow the digits
 record IsEnding (suffix : List ℕ) : Type 0 where
@@ -143,20 +120,12 @@ nothing_more = record {
 abbrev is_letter : ℕ → Bool
 is_letter c = nat_lt c 128 && is_ascii_alphanumeric c
 
-letters_continue : (cs : List ℕ) → list_all is_letter cs ≡ true → list_all is_xid_continue cs ≡ true
-letters_continue [] h = refl
-letters_continue (c ∷ cs) h =
-    let both = and_parts (is_letter c) _ h in
-    let one = and_parts (nat_lt c 128) _ both.0 in
-    and_from _ _ (is_xid_continue-ascii c (ltb-true c 128 one.0)
-    ∙ ap (λ b. b || (c == 95)) one.1) (letters_continue cs both.1)
+letter_low : (c : ℕ) → is_letter c ≡ true → c < 128
+letter_low c h = ltb-true c 128 (and_parts (nat_lt c 128) _ h).0
 
-letters_ascii : (cs : List ℕ) → list_all is_letter cs ≡ true → IsAscii cs
-letters_ascii [] h = IsAscii-nil
-letters_ascii (c ∷ cs) h =
-    let both = and_parts (is_letter c) _ h in
-    IsAscii-cons c cs (ltb-true c 128 (and_parts (nat_lt c 128) _ both.0).0)
-    (letters_ascii cs both.1)
+letter_continues : (c : ℕ) → is_letter c ≡ true → is_xid_continue c ≡ true
+letter_continues c h =
+    is_xid_continue-ascii c (letter_low c h) ∙ or_left _ _ (and_parts (nat_lt c 128) _ h).1
 
 -- a name that begins with `i` or `u`
 name_of : (c : ℕ) (cs : List ℕ) → c < 128 → is_ascii_alphabetic c ≡ true →
@@ -164,8 +133,14 @@ name_of : (c : ℕ) (cs : List ℕ) → c < 128 → is_ascii_alphabetic c ≡ tr
     begins_with 46 (c ∷ cs) ≡ false → is_exponent (c ∷ cs) ≡ false → names_base (c ∷ cs) ≡ false →
     list_all is_letter cs ≡ true → IsEnding (c ∷ cs)
 name_of c cs low letter starts stops dot exponent base all = record {
-  ascii = IsAscii-cons c cs low (letters_ascii cs all);
-  ends = (starts, (sym (letter_start c low true (sym letter)), letters_continue cs all));
+  ascii = IsAscii-cons c cs low (all_ascii is_letter letter_low cs all);
+  ends = (
+    starts,
+    (
+      sym (letter_start c low true (sym letter)),
+      all_pass is_letter is_xid_continue letter_continues cs all,
+    ),
+  );
   stops = stops;
   no_dot = dot;
   no_exponent = exponent;
@@ -197,17 +172,15 @@ pub type_ascii : (type : IntegerType) → IsAscii (integer_type_name type)
 type_ascii type = (type_name type).ascii
 
 ending_of : (suffix : List ℕ) → IsIntegerSuffix suffix → IsEnding suffix
-ending_of suffix (inl e) = subst IsEnding (sym e) nothing_more
-ending_of suffix (inr (type, e)) = subst IsEnding (sym e) (type_name type)
+ending_of suffix (inl e) = rw e nothing_more
+ending_of suffix (inr (type, e)) = rw e (type_name type)
 
 -- no float begins so
 no_tail : (text : List ℕ) → begins_with 46 text ≡ false → is_exponent text ≡ false →
     HasPrefix IsFloatTail text → ⊥
-no_tail text dot exponent (piece, after, cut, inl (more, e, fraction)) =
-    false≢true (sym dot ∙ ap (begins_with 46) (cut ∙ ap (λ w. w ++ after) e))
+no_tail text dot exponent (piece, after, cut, inl (more, e, fraction)) = cc
 no_tail text dot exponent ([], after, cut, inr none) = none
-no_tail text dot exponent (c ∷ more, after, cut, inr (letter, signed)) =
-    false≢true (sym exponent ∙ ap is_exponent cut ∙ letter)
+no_tail text dot exponent (c ∷ more, after, cut, inr (letter, signed)) = cc
 
 -- digits with what follows them
 module _ (c : ℕ) (digits suffix : List ℕ) (h : AreDigits (c ∷ digits)) (w : IsEnding suffix) where
@@ -218,7 +191,7 @@ module _ (c : ℕ) (digits suffix : List ℕ) (h : AreDigits (c ∷ digits)) (w 
   first = (and_parts (is_digit c 10) _ h).0
 
   skips : Skips (is_digit_or_underscore 10) text (c ∷ digits) suffix
-  skips = record { cut = refl; pass = all_pass (c ∷ digits) h; stops = w.stops }
+  skips = record { cut = refl; pass = digits_pass (c ∷ digits) h; stops = w.stops }
 
   base : names_base (digits ++ suffix) ≡ false
   base = at digits (and_parts (is_digit c 10) _ h).1
@@ -228,7 +201,7 @@ module _ (c : ℕ) (digits suffix : List ℕ) (h : AreDigits (c ∷ digits)) (w 
       at (d ∷ ds) k = digit_no_base d (ds ++ suffix) (and_parts (is_digit d 10) _ k).0
 
   spelled : Spells Decimal text
-  spelled = (c ∷ digits, suffix, refl, all_pass (c ∷ digits) h, first, w.ends)
+  spelled = (c ∷ digits, suffix, refl, digits_pass (c ∷ digits) h, first, w.ends)
 
   listed : (mode : Mode) → IsFirstFit text (among mode decimal_rules) Decimal text []
   listed Plain = here (whole (Spells Decimal) text spelled)
@@ -239,7 +212,7 @@ module _ (c : ℕ) (digits suffix : List ℕ) (h : AreDigits (c ∷ digits)) (w 
       (λ more e. false≢true (sym w.no_dot ∙ ap (begins_with 46) e))
       (whole (IsNumberSuffix 10) suffix w.ends) in
       let same : piece ≡ text = sym (append-nil piece) ∙ sym (fits_longest fit).cut in
-      subst (λ p. IsFirstFit text decimal_rules Decimal p []) same fit
+      rw same at fit
 
   first_fit : (mode : Mode) → IsFirstFit text (rules_of mode) Decimal text []
   first_fit mode = at (c == 48) refl
@@ -250,13 +223,9 @@ module _ (c : ℕ) (digits suffix : List ℕ) (h : AreDigits (c ∷ digits)) (w 
       at false e = decides_digit mode c text (digits ++ suffix) text [] Decimal refl (listed mode)
           (start_digit c first e)
 
-  and_none : (b : Bool) → (b && false) ≡ false
-  and_none true = refl
-  and_none false = refl
-
   unrejected : (mode : Mode) (at : ℕ) → error_kind Decimal mode at text [] ≡ None
-  unrejected Plain at = rw (and_none (is_bare 10 text)) refl
-  unrejected Marked at = rw (and_none (is_bare 10 text)) refl
+  unrejected Plain at = rw (and_right (is_bare 10 text) false refl) refl
+  unrejected Marked at = rw (and_right (is_bare 10 text) false refl) refl
   unrejected (Source edition) at = refl
 
   read : (mode : Mode) → IsOnePiece mode Decimal text
@@ -265,14 +234,13 @@ module _ (c : ℕ) (digits suffix : List ℕ) (h : AreDigits (c ∷ digits)) (w 
   value : (n : ℕ) → digits_value 10 (c ∷ digits) ≡ n → IsInteger text n suffix
   value n is = (
     first,
-    subst (λ (p : ℕ × List ℕ). IsDigits p.0 p.1 suffix n)
-        (sym (base_ten c (digits ++ suffix) base)) (record {
-          digits = c ∷ digits;
-          skips = skips;
-          some = ap (λ b. b || has_digit 10 digits) first;
-          ends = w.ends;
-          is = sym (number_is (c ∷ digits) 0 h ∙ is);
-        }),
+    rw (base_ten c (digits ++ suffix) base) (record {
+      digits = c ∷ digits;
+      skips = skips;
+      some = or_left _ _ first;
+      ends = w.ends;
+      is = sym (number_is (c ∷ digits) 0 h ∙ is);
+    }),
   )
 
 -- of any digits
@@ -293,5 +261,4 @@ integers_are_read mode n few suffix s =
     let same = chars-IsAscii (decimal n ++ suffix)
     (IsAscii-append (decimal n) suffix
     (digits_ascii (decimal n) (are_digits (decimal n) numeral.1)) w.ascii) in
-    subst (λ t. IsOnePiece mode Decimal t × IsInteger t n suffix) (sym same)
-    (made mode (decimal n) suffix n numeral.0 numeral.1 is w)
+    rw same (made mode (decimal n) suffix n numeral.0 numeral.1 is w)

@@ -37,13 +37,12 @@ module _ (radix : ℕ) (small : radix ≤ 16) where
       is_digit (get_or xs k 0) radix ≡ true → ⊥) → fold (step radix) n xs ≡ n
   fold_none [] n none = refl
   fold_none (x ∷ xs) n none =
-      ap (λ b. fold (step radix) (if b then n * radix + digit_value x else n) xs)
-      (false_from_ne_true (is_digit x radix) (none 0 (omega arith)))
-      ∙ fold_none xs n (λ k h p. none (suc k) (omega arith) p)
+      simp (false_from_ne_true (is_digit x radix) (none 0 (omega arith)))
+      (fold_none xs n (λ k h p. none (suc k) (omega arith) p))
 
   fold_one : (c n : ℕ) → fold (step radix) n (encode_utf8 c) ≡ step radix n c
   fold_one c n = elim (cases_lt c 128) [
-    | inl low ↦ ap (fold (step radix) n) (encode_ascii c low)
+    | inl low ↦ rw (encode_ascii c low) refl
     | inr high ↦
         fold_none (encode_utf8 c) n (λ k h p.
         let low = digit_low radix (get_or (encode_utf8 c) k 0) small p in
@@ -58,20 +57,18 @@ module _ (radix : ℕ) (small : radix ≤ 16) where
       ≡ fold (step radix) n cs
   fold_encoded [] n = refl
   fold_encoded (c ∷ cs) n =
-      fold-append (step radix) n (encode_utf8 c) (encode_utf8_all cs)
-      ∙ ap (λ m. fold (step radix) m (encode_utf8_all cs)) (fold_one c n)
-      ∙ fold_encoded cs (step radix n c)
+      rw (fold-append (step radix) n (encode_utf8 c) (encode_utf8_all cs), fold_one c n)
+      (fold_encoded cs (step radix n c))
 
   -- the number that the bytes write
   pub number_of_bytes : (text : List ℕ) → IsUtf8 text → fold (step radix) 0 text
       ≡ number radix (chars text)
-  number_of_bytes text u = ap (fold (step radix) 0) (sym (encodes-chars text u))
-      ∙ fold_encoded (chars text) 0
+  number_of_bytes text u = cc (encodes-chars text u, fold_encoded (chars text) 0)
 
 -- one digit more
 pub one_passes : (p : ℕ → Bool) (bytes : List ℕ) (end : ℕ) → AllPass p bytes 0 end →
     p (get_or bytes end 0) ≡ true → AllPass p bytes 0 (end + 1)
 one_passes p bytes end before here k from to = elim (cases_lt k end) [
   | inl early ↦ before k from early
-  | inr late ↦ let same : k ≡ end = omega arith in ap (λ i. p (get_or bytes i 0)) same ∙ here
+  | inr late ↦ let same : k ≡ end = omega arith in rw same here
 ]

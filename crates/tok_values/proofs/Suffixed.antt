@@ -1,21 +1,21 @@
 -- Quotes and apostrophes with a suffix after them, and the units of C strings.
-use Rattle.std.proofs.Common.{◌≡◌, ◌∙◌, ◌∷◌, [], ap, Bool, false, List, None, Option, Some, subst}
+use Rattle.std.proofs.Common.{◌≡◌, ◌∙◌, ◌∷◌, [], ap, Bool, false, List, None, Option, Some}
 use Rattle.std.proofs.Common.{inl, inr, refl, sym, true, ℕ}
 use Rattle.std.specs.Ffi.{HasNoNul}
-use Rattle.std.specs.Prelude.{◌==◌, ◌⊎◌, Err, IfOk, length, MatchBool, MatchOption, Ok, option_map}
+use Rattle.std.specs.Prelude.{◌==◌, ◌⊎◌, Err, IfOk, length, MatchBool, MatchOption, Ok}
 use Rattle.std.specs.Prelude.{Result}
 use Rattle.std.specs.Str.{chars, IsUtf8}
 use Rattle.std.proofs.lemmas.Bool.{false≢true}
 use Rattle.std.proofs.lemmas.Str.{chars-nil}
 use Rattle.tok_lexical.specs.Pieces.{After, begins_with}
 use Rattle.tok_lexical.specs.Words.{IsIdentifier, IsSuffix}
-use Rattle.tok_lexical.proofs.EscapedChars.{tails}
 use Rattle.tok_leaves.proofs.Names.{no_text, some_chars}
 use Rattle.tok_values.specs.CStrings.{bytes_of, c_unit, names_byte}
 use Rattle.tok_values.specs.Strings.{InQuotes, MeansBy, unit}
 use Rattle.tok_values.specs.Suffixed.{IsCStrValue, IsStringBy}
 use Rattle.tok_values.proofs.RawStrings.{no_raw, raw_once}
 use Rattle.tok_values.proofs.Units.{read_once}
+use Rattle.tok_values.proofs.Letters.{after_none}
 
 pub no_suffix : (text : List ℕ) (b : Bool) → b ≡ (length text == 0) → b ≡ true →
     MatchBool b (IsSuffix (chars text)) (IsSuffix (chars text) → ⊥)
@@ -44,10 +44,9 @@ module _ (Tail : List ℕ → Type 0) (unit_of : List ℕ → Option (List ℕ �
   pub not_quoted : unit_of rest ≡ None → (After 34 Tail rest → ⊥) → (other : List ℕ) →
       InQuotes Tail unit_of text other → ⊥
   not_quoted ends never other (inside, e, (left, read, (suffix, f, s))) =
-      let same = tails 34 34 inside inner (sym e ∙ cut) in
-      let one = read_once unit_of inner left rest other meaning
-      (subst (λ x. MeansBy unit_of x left other) same read) reads
-      (ap unit_of f ∙ stops suffix) ends in
+      let same : inside ≡ inner = cc in
+      let one = read_once unit_of inner left rest other meaning (rw same at read) reads
+      (rw f (stops suffix)) ends in
       never (suffix, sym one.0 ∙ f, s)
 
 pub quote_stops : (wide : Bool) (rest : List ℕ) → unit wide (34 ∷ rest) ≡ None
@@ -60,15 +59,13 @@ c_quote_stops rest = refl
 pub c_none : (text : List ℕ) (is_byte : Bool) → is_byte ≡ names_byte text → unit is_byte text ≡ None
     → c_unit text ≡ None
 c_none text is_byte e h =
-    ap (λ b. option_map (λ p. (bytes_of b p.0, p.1)) (unit b text)) (sym e)
-    ∙ ap (option_map (λ p. (bytes_of is_byte p.0, p.1))) h
+    rw (← e, h) refl
 
 pub c_some : (text characters rest : List ℕ) (is_byte : Bool) → is_byte ≡ names_byte text →
     unit is_byte text ≡ Some (characters, rest) →
     c_unit text ≡ Some (bytes_of is_byte characters, rest)
 c_some text characters rest is_byte e h =
-    ap (λ b. option_map (λ p. (bytes_of b p.0, p.1)) (unit b text)) (sym e)
-    ∙ ap (option_map (λ p. (bytes_of is_byte p.0, p.1))) h
+    rw (← e, h) refl
 
 -- a string has one value
 module _ (unit_of : List ℕ → Option (List ℕ × List ℕ))
@@ -77,9 +74,9 @@ module _ (unit_of : List ℕ → Option (List ℕ × List ℕ))
       InQuotes IsSuffix unit_of text b → a ≡ b
   quotes_once text a b (inner, cut, (rest, read, (suffix, e, s)))
       (inside, f, (left, other, (end, g, t))) =
-      let same = tails 34 34 inside inner (sym f ∙ cut) in
-      (read_once unit_of inner rest left a b read (subst (λ x. MeansBy unit_of x left b) same other)
-      (ap unit_of e ∙ stops suffix) (ap unit_of g ∙ stops end)).1
+      let same : inside ≡ inner = cc in
+      (read_once unit_of inner rest left a b read (rw same at other) (rw e (stops suffix))
+      (rw g (stops end))).1
 
   pub string_once : (text a b : List ℕ) → IsStringBy unit_of text a → IsStringBy unit_of text b →
       a ≡ b
@@ -106,8 +103,7 @@ module _ {S E : Type 0} (bytes : S → List ℕ) where
       IfOk r (λ o. MatchOption o ((v : List ℕ) → After letter (λ w. P w v) text → ⊥)
       (λ s. After letter (λ w. P w (bytes s)) text))
   after_letter P letter text string e (Ok (Some s)) h = (string, e, h)
-  after_letter P letter text string e (Ok None) h =
-      λ v (w, f, p). h v (subst (λ x. P x v) (tails letter letter w string (sym f ∙ e)) p)
+  after_letter P letter text string e (Ok None) h = after_none letter P text string e h
   after_letter P letter text string e (Err x) h = tt
 
   -- with a zero after the bytes
@@ -117,16 +113,16 @@ module _ {S E : Type 0} (bytes : S → List ℕ) where
       IfOk r (λ o. MatchOption o ((v : List ℕ) → IsCStrValue text v → ⊥)
       (λ s. IsCStrValue text (bytes s)))
   c_ended text string read e is (Ok (Some s)) h = (
-    (string, e, subst (IsStringBy c_unit string) (sym h.0) is),
-    subst HasNoNul (sym h.0) h.1,
+    (string, e, rw h.0 is),
+    rw h.0 h.1,
   )
   c_ended text string read e is (Ok None) h =
       λ v ((w, f, p), some).
-      let one = subst (λ x. IsStringBy c_unit x v) (tails 99 99 w string (sym f ∙ e)) p in
-      h (subst HasNoNul (string_once c_unit c_quote_stops string v read one is) some)
+      let same : w ≡ string = cc in
+      h (rw (string_once c_unit c_quote_stops string v read (rw same at p) is) at some)
   c_ended text string read e is (Err x) h = tt
 
 pub c_other : (text string : List ℕ) → text ≡ 99 ∷ string →
     ((v : List ℕ) → IsStringBy c_unit string v → ⊥) → (v : List ℕ) → IsCStrValue text v → ⊥
 c_other text string e none v ((w, f, p), some) =
-    none v (subst (λ x. IsStringBy c_unit x v) (tails 99 99 w string (sym f ∙ e)) p)
+    let same : w ≡ string = cc in none v (rw same at p)

@@ -1,7 +1,7 @@
 -- The suffix of a number names a type, or there is none.
 use Rattle.std.proofs.Common.{◌≡◌, ◌∙◌, ℕ, List, Bool, true, false, None, Option, Some, ap}
-use Rattle.std.proofs.Common.{inl, inr, length, refl, subst, sym}
-use Rattle.std.specs.Prelude.{◌==◌, MatchBool, MatchOption, encode_utf8_all, is_some}
+use Rattle.std.proofs.Common.{inl, inr, length, refl, sym}
+use Rattle.std.specs.Prelude.{◌==◌, MatchBool, MatchOption, is_some}
 use Rattle.std.specs.Str.{IsAscii, IsUtf8, chars}
 use Rattle.std.proofs.lemmas.Bool.{false≢true}
 use Rattle.std.proofs.lemmas.Str.{chars-IsAscii, chars-nil, encodes-IsAscii, encodes-chars}
@@ -20,18 +20,17 @@ use Rattle.tok_values.proofs.MadeIntegers.{type_ascii}
 -- a text whose characters are ASCII is them
 same_bytes : (text word : List ℕ) → IsUtf8 text → IsAscii word → chars text ≡ word → text ≡ word
 same_bytes text word u low same =
-    sym (encodes-chars text u) ∙ ap encode_utf8_all same ∙ encodes-IsAscii word low
+    cc (encodes-chars text u, encodes-IsAscii word low)
 
 -- the bytes of a suffix tell whether it is one of a float
 pub float_suffix_chars : (text : List ℕ) → IsFloatSuffix text → IsFloatSuffix (chars text)
 float_suffix_chars text is =
-    subst IsFloatSuffix (sym (chars-IsAscii text (float_type_ascii text is))) is
+    rw (chars-IsAscii text (float_type_ascii text is)) is
 
 pub float_suffix_bytes : (text : List ℕ) → IsUtf8 text → IsFloatSuffix (chars text) →
     IsFloatSuffix text
 float_suffix_bytes text u is =
-    subst IsFloatSuffix (sym (same_bytes text (chars text) u (float_type_ascii (chars text) is)
-    refl)) is
+    rw (same_bytes text (chars text) u (float_type_ascii (chars text) is) refl) is
 
 pub none_named : (text : List ℕ) (b : Bool) → b ≡ (length text == 0) → b ≡ true →
     MatchBool b (IsIntegerSuffix (chars text)) (IsIntegerSuffix (chars text) → ⊥)
@@ -64,10 +63,10 @@ integer_typed text value suffix i true h = (
   value,
   suffix,
   i,
-  subst IsIntegerSuffix (integers_have_their_suffix text value suffix i).0 h,
+  rw (integers_have_their_suffix text value suffix i).0 at h,
 )
 integer_typed text value suffix i false h = λ (v, s, j, k).
-    h (subst IsIntegerSuffix (sym (integers_have_their_suffix text v s j).0) k)
+    h (rw (integers_have_their_suffix text v s j).0 k)
 
 -- the base and the suffix of a number tell whether it has a value as a float
 pub float_valued : (bytes : List ℕ) → IsUtf8 bytes → IsNumberText (chars bytes) →

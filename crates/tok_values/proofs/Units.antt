@@ -1,29 +1,23 @@
 -- Units, one after another.
 use Rattle.std.proofs.Common.{◌≡◌, ◌∙◌, ℕ, List, [], ◌∷◌, ◌++◌, Option, Some, None, Bool, refl, sym}
-use Rattle.std.proofs.Common.{ap, subst, append_assoc}
+use Rattle.std.proofs.Common.{append_assoc}
 use Rattle.std.specs.Prelude.{encode_utf8, encode_utf8_all}
 use Rattle.std.proofs.lemmas.List.{append-nil}
 use Rattle.std.proofs.lemmas.Str.{encodes-append}
 use Rattle.tok_values.specs.Strings.{Means, MeansBy, nothing, more}
 use Rattle.tok_values.specs.Strings.{unit}
-
-abbrev parts : Option (List ℕ × List ℕ) → List ℕ × List ℕ
-parts None = ([], [])
-parts (Some p) = p
-
-abbrev after_char : Option (ℕ × List ℕ) → List ℕ
-after_char None = []
-after_char (Some p) = p.1
+use Rattle.std.proofs.lemmas.Option.{some_pair_parts}
 
 module _ (unit_of : List ℕ → Option (List ℕ × List ℕ)) where
   -- one unit more
   pub more_by : (text rest after characters front : List ℕ) → MeansBy unit_of text rest characters
       → unit_of rest ≡ Some (front, after) → MeansBy unit_of text after (characters ++ front)
   more_by text rest after characters front (nothing t) e =
-      subst (MeansBy unit_of t after) (append-nil front)
-      (more t after after front [] e (nothing after))
+      let one : MeansBy unit_of t after (front ++ []) =
+      more t after after front [] e (nothing after) in
+      rw append-nil at one
   more_by text rest after characters front (more t middle r first cs h m) e =
-      subst (MeansBy unit_of t after) (sym (append_assoc first cs front))
+      rw append_assoc
       (more t middle after first (cs ++ front) h (more_by middle r after cs front m e))
 
   -- two readings that both stop are one
@@ -33,11 +27,8 @@ module _ (unit_of : List ℕ → Option (List ℕ × List ℕ)) where
   read_once text a b v w (nothing t) (more u middle r first cs h m) p q = absurd (cc)
   read_once text a b v w (more t middle r first cs h m) (nothing u) p q = absurd (cc)
   read_once text a b v w (more t middle r first cs h m) (more u middle2 r2 first2 cs2 h2 m2) p q =
-      let one = sym h2 ∙ h in
-      let same : middle2 ≡ middle = ap (λ o. (parts o).1) one in
-      let fronts : first ≡ first2 = ap (λ o. (parts o).0) (sym one) in
-      let e = read_once middle a b cs cs2 m (subst (λ x. MeansBy unit_of x b cs2) same m2) p q in
-      (e.0, ap (λ x. x ++ cs) fronts ∙ ap (λ x. first2 ++ x) e.1)
+      let (fronts, same) = some_pair_parts first first2 middle middle2 (sym h ∙ h2) in
+      let e = read_once middle a b cs cs2 m (rw (← same) at m2) p q in (e.0, cc (e.1))
 
 -- one unit more of a string or a byte string
 pub unit_more : (wide : Bool) (text rest after characters front : List ℕ)
@@ -45,16 +36,13 @@ pub unit_more : (wide : Bool) (text rest after characters front : List ℕ)
     → unit wide rest ≡ Some (front, after) → Means wide text after (characters ++ front)
 unit_more wide = more_by (unit wide)
 
-reads_once : (wide : Bool) (text a b v w : List ℕ) → Means wide text a v → Means wide text b w
-    → unit wide a ≡ None → unit wide b ≡ None → (a ≡ b) × (v ≡ w)
-reads_once wide = read_once (unit wide)
-
 -- one character more, as bytes
 pub encoded_more : (old new now : List ℕ) (characters : List ℕ) (c : ℕ)
     → new ≡ old ++ encode_utf8_all characters
     → now ≡ new ++ encode_utf8 c → now ≡ old ++ encode_utf8_all (characters ++ c ∷ [])
 encoded_more old new now characters c e h =
-    h ∙ ap (λ x. x ++ encode_utf8 c) e
-    ∙ append_assoc old (encode_utf8_all characters) (encode_utf8 c)
-    ∙ ap (λ x. old ++ x) (ap (λ x. encode_utf8_all characters ++ x)
-    (sym (append-nil (encode_utf8 c))) ∙ sym (encodes-append characters (c ∷ [])))
+    cc (
+      append_assoc old (encode_utf8_all characters) (encode_utf8 c),
+      encodes-append characters (c ∷ []),
+      append-nil (encode_utf8 c),
+    )

@@ -1,12 +1,12 @@
 -- A string by the grammar in which nothing is wrong has a value.
-use Rattle.std.proofs.Common.{◌≡◌, ◌∙◌, ◌⊎◌, ◌≤◌, ◌+◌, ℕ, zero, suc, List, [], ◌∷◌, ◌++◌, Bool}
-use Rattle.std.proofs.Common.{None, Option, Some, true, false, ap, append_assoc, arith, inl, inr}
-use Rattle.std.proofs.Common.{length, length-append, refl, subst, sym}
-use Rattle.std.specs.Prelude.{◌==◌, ◌≢◌, ◌||◌, ◌&&◌, encode_utf8_all, if◌then◌else◌, nat_le, not}
+use Rattle.std.proofs.Common.{◌≡◌, ◌∙◌, ◌⊎◌, ◌≤◌, ℕ, zero, suc, List, [], ◌∷◌, ◌++◌, Bool}
+use Rattle.std.proofs.Common.{Option, Some, true, false, ap, append_assoc, arith, inl, inr}
+use Rattle.std.proofs.Common.{length, length-append, refl, sym}
+use Rattle.std.specs.Prelude.{◌==◌, ◌≢◌, ◌&&◌, encode_utf8_all, nat_le, not}
 use Rattle.std.specs.List.{list_all}
-use Rattle.std.proofs.lemmas.Bool.{and_from, and_parts, eqb-true, false_from_ne_true, false≢true}
+use Rattle.std.proofs.lemmas.Bool.{and_from, and_parts, eqb-true, false_from_ne_true, false≢true, not-false, not-true}
 use Rattle.std.proofs.lemmas.Bool.{or_parts}
-use Rattle.tok_lexical.specs.Contents.{has_bare_return, has_misfit, has_quote, is_wrong}
+use Rattle.tok_lexical.specs.Contents.{has_bare_return, has_misfit, is_wrong}
 use Rattle.tok_lexical.specs.Pieces.{After, Skips, begins_with}
 use Rattle.tok_lexical.specs.Raw.{IsRaw, IsRawString}
 use Rattle.tok_lexical.specs.Strings.{AreUnits, EscapeOf, IsEscape, IsString}
@@ -16,21 +16,14 @@ use Rattle.tok_lexical.specs.Words.{IsSuffix}
 use Rattle.tok_lexical.specs.declared.contents.Contents.{Contents}
 use Rattle.tok_lexical.specs.declared.contents.Contents.TheVariants.{Text, Bytes}
 use Rattle.tok_lexical.proofs.RawQuotes.{quotes_read}
-use Rattle.tok_values.specs.Strings.{IsStringValue, MeansBy, after_return, is_blank, more}
-use Rattle.tok_values.specs.Strings.{InQuotes, nothing, past_escape, unit, without_blanks}
+use Rattle.tok_values.specs.Strings.{IsStringValue, MeansBy, is_blank, more}
+use Rattle.tok_values.specs.Strings.{InQuotes, nothing, unit, without_blanks}
 use Rattle.tok_values.specs.Suffixed.{InRaw, IsByteStrValue, IsStrValue}
 use Rattle.tok_values.specs.Suffixes.{literal_suffix}
 use Rattle.tok_values.proofs.Endings.{quoted_have_their_suffix}
 use Rattle.tok_values.proofs.Escaped.{Names, code_names, hex_names, named_unit, simple_names}
 use Rattle.tok_values.proofs.Zeros.{quote_found}
-
-not_true : (b : Bool) → not b ≡ true → b ≡ false
-not_true true h = absurd (false≢true h)
-not_true false h = refl
-
-not_false : (b : Bool) → not b ≡ false → b ≡ true
-not_false true h = refl
-not_false false h = absurd (false≢true (sym h))
+use Rattle.tok_values.proofs.Quoted.{plain_unit}
 
 -- no U+000D stands alone in what is left
 kept_after : (front rest : List ℕ) → has_bare_return (front ++ rest) ≡ false →
@@ -42,22 +35,6 @@ all_after : (p : ℕ → Bool) (front rest : List ℕ) → list_all p (front ++ 
     list_all p rest ≡ true
 all_after p [] rest h = h
 all_after p (c ∷ front) rest h = all_after p front rest (and_parts (p c) _ h).1
-
--- a character that means itself
-pub plain_unit : (wide : Bool) (c : ℕ) (rest : List ℕ) → (c == 92) ≡ false → (c == 34) ≡ false →
-    (c == 13) ≡ false → (wide && nat_le 128 c) ≡ false →
-    unit wide (c ∷ rest) ≡ Some (c ∷ [], rest)
-plain_unit wide c rest slash quote return narrow =
-    ap (λ b. if b then past_escape wide rest else
-    if c == 34 then None else
-    if c == 13 then after_return rest else
-    if wide && nat_le 128 c then None else Some (c ∷ [], rest)) slash
-    ∙ ap (λ b. if b then None else
-    if c == 13 then after_return rest else
-    if wide && nat_le 128 c then None else Some (c ∷ [], rest)) quote
-    ∙ ap (λ b. if b then after_return rest else
-    if wide && nat_le 128 c then None else Some (c ∷ [], rest)) return
-    ∙ ap (λ b. if b then None else Some (c ∷ [], rest)) narrow
 
 -- units are read so; a fact on a text and its meaning
 module _ (unit_of : List ℕ → Option (List ℕ × List ℕ)) (Fact : (text meaning : List ℕ) → Type 0)
@@ -108,17 +85,12 @@ module _ (kind : Contents) (unit_of : List ℕ → Option (List ℕ × List ℕ)
   strip c rest true e us s = record {
     front = c ∷ s.front;
     left = s.left;
-    cut = ap (λ w. c ∷ w) s.cut;
-    is = ap (λ b. if b then without_blanks (rest ++ end) else c ∷ (rest ++ end)) e ∙ s.is;
+    cut = cc (s.cut);
+    is = cc (s.is);
     units = s.units;
   }
-  strip c rest false e us s = record {
-    front = [];
-    left = c ∷ rest;
-    cut = refl;
-    is = ap (λ b. if b then without_blanks (rest ++ end) else c ∷ (rest ++ end)) e;
-    units = us;
-  }
+  strip c rest false e us s =
+      record { front = []; left = c ∷ rest; cut = refl; is = simp e; units = us }
 
   stripped : {body : List ℕ} → AreUnits kind body → Stripped body
   stripped no_unit =
@@ -141,9 +113,7 @@ module _ (kind : Contents) (unit_of : List ℕ → Option (List ℕ × List ℕ)
   sound_after : (front left : List ℕ) → IsSound (front ++ left) → IsSound left
   sound_after front left s = record {
     fit = all_after is_fit front left s.fit;
-    kept =
-        kept_after front (left ++ end)
-        (sym (ap has_bare_return (append_assoc front left end)) ∙ s.kept);
+    kept = kept_after front (left ++ end) (rw append_assoc at s.kept);
   }
 
   -- a U+000D is followed by a line feed
@@ -166,19 +136,13 @@ module _ (kind : Contents) (unit_of : List ℕ → Option (List ℕ × List ℕ)
         length (c ∷ rest) ≤ suc most → AreUnits kind rest → IsSound (c ∷ rest) →
         HasMeaning (c ∷ (rest ++ end))
     plain_means c rest true e quote slash few us s =
-        let same_c : c ≡ 13 = eqb-true c 13 e in
-        let kept : (((13 == 13) && not (begins_with 10 (rest ++ end))) || has_bare_return
-        (rest ++ end)) ≡ false = ap (λ d. has_bare_return (d ∷ (rest ++ end))) (sym same_c)
-        ∙ s.kept in
-        let (after, cut, units) = line_feed_next us (not_false _ (or_parts _ _ kept).0) in
-        let sound : IsSound after =
-        sound_after (c ∷ 10 ∷ []) after (subst (λ w. IsSound (c ∷ w)) cut s) in
-        let l : length rest ≡ length (10 ∷ after) = ap length cut in
-        let same : 13 ∷ 10 ∷ (after ++ end) ≡ c ∷ (rest ++ end) =
-        ap (λ w. 13 ∷ (w ++ end)) (sym cut) ∙ ap (λ d. d ∷ (rest ++ end)) (sym same_c) in
-        next (c ∷ (rest ++ end)) (after ++ end)
-        (subst (λ w. Begins unit_of Fact w (after ++ end)) same
-        (reads.feed (after ++ end)))
+        let same : c ≡ 13 = eqb-true c 13 e in
+        let kept = rw same at s.kept in
+        let (after, cut, units) = line_feed_next us (not-false _ (or_parts _ _ kept).0) in
+        let sound = sound_after (c ∷ 10 ∷ []) after (rw cut at s) in
+        let l = ap length cut in
+        let whole : 13 ∷ 10 ∷ (after ++ end) ≡ c ∷ (rest ++ end) = cc in
+        next (c ∷ (rest ++ end)) (after ++ end) (rw whole at (reads.feed (after ++ end)))
         (again after (omega (arith, few, l)) units sound)
     plain_means c rest false e quote slash few us s =
         next (c ∷ (rest ++ end)) (rest ++ end)
@@ -200,12 +164,10 @@ module _ (kind : Contents) (unit_of : List ℕ → Option (List ℕ × List ℕ)
               (again rest (omega (arith, few, l)) us after)
           | inr begins ↦
               let w = stripped us in
-              let m : length rest ≡ length w.front + length w.left =
-              ap length w.cut ∙ length-append w.front w.left in
-              next (92 ∷ (text ++ (rest ++ end))) (w.left ++ end)
-              (subst (Begins unit_of Fact (92 ∷ (text ++ (rest ++ end)))) w.is begins)
+              let m = ap length w.cut ∙ length-append w.front w.left in
+              next (92 ∷ (text ++ (rest ++ end))) (w.left ++ end) (rw w.is at begins)
               (again w.left (omega (arith, few, l, m)) w.units
-              (sound_after w.front w.left (subst IsSound w.cut after)))
+              (sound_after w.front w.left (rw w.cut at after)))
         ]
 
     units_mean : Fact end [] → {body : List ℕ} → length body ≤ suc most → AreUnits kind body →
@@ -214,8 +176,7 @@ module _ (kind : Contents) (unit_of : List ℕ → Option (List ℕ × List ℕ)
     units_mean ends few (one_more {rest = rest} (plain c quote slash) us) s =
         plain_means c rest (c == 13) refl quote slash few us s
     units_mean ends few (one_more {rest = rest} (escape {text = text} e) us) s =
-        subst HasMeaning (ap (λ w. 92 ∷ w) (sym (append_assoc text rest end)))
-        (escape_means text rest few e us s)
+        rw append_assoc (escape_means text rest few e us s)
 
   module _ (ends : Fact end []) where
     nothing_means : {body : List ℕ} → length body ≤ 0 → AreUnits kind body →
@@ -251,19 +212,19 @@ any_escape wide text rest (simple c h) =
 any_escape wide text rest (hex {text = digits} h) =
     let n = hex_names wide digits rest h in inl (n.char ∷ [], named_unit n, λ m f. tt)
 any_escape wide text rest (code {text = braced} e h) =
-    let n = subst (λ b. Names b (117 ∷ braced) rest) (sym e) (code_names braced rest h) in
+    let n : Names wide (117 ∷ braced) rest = rw e (code_names braced rest h) in
     inl (n.char ∷ [], named_unit n, λ m f. tt)
 any_escape wide text rest (line_end e (inl f)) =
-    inr ([], ap (λ w. unit wide (92 ∷ (w ++ rest))) f, λ m g. tt)
+    inr ([], rw f refl, λ m g. tt)
 any_escape wide text rest (line_end e (inr f)) =
-    inr ([], ap (λ w. unit wide (92 ∷ (w ++ rest))) f, λ m g. tt)
+    inr ([], rw f refl, λ m g. tt)
 
 by_units : (kind : Contents) (wide : Bool) →
     ((text : List ℕ) → EscapeOf kind text → IsEscape true wide text) →
     Reads (unit wide) NoFact kind (is_narrow wide)
 by_units kind wide same = record {
   plain = λ c rest quote slash return narrow.
-      (c ∷ [], plain_unit wide c rest slash quote return (not_true _ narrow), λ m f. tt);
+      (c ∷ [], plain_unit wide c rest slash quote return (not-true _ narrow), λ m f. tt);
   feed = λ rest. (10 ∷ [], refl, λ m f. tt);
   escaped = λ text rest e. any_escape wide text rest (same text e);
 }
@@ -344,21 +305,10 @@ plain_strings_have_values text (body, suffix, e, us, ends) right none =
 narrow_before : (front rest : List ℕ) → has_misfit Bytes (front ++ 34 ∷ rest) ≡ false →
     list_all (is_narrow true) front ≡ true
 narrow_before [] rest h = refl
-narrow_before (c ∷ front) rest h = at (nat_le 128 c) refl (narrow_before front rest)
-  where
-    text : List ℕ
-    text = front ++ 34 ∷ rest
-
-    at : (b : Bool) → nat_le 128 c ≡ b →
-        (has_misfit Bytes text ≡ false → list_all (is_narrow true) front ≡ true) →
-        list_all (is_narrow true) (c ∷ front) ≡ true
-    at true e again =
-        absurd (false≢true (sym h
-        ∙ ap (λ b. if b then has_quote text else has_misfit Bytes text) e
-        ∙ quote_found front rest))
-    at false e again =
-        and_from _ _ (ap not e)
-        (again (sym (ap (λ b. if b then has_quote text else has_misfit Bytes text) e) ∙ h))
+narrow_before (c ∷ front) rest h =
+    let found = quote_found front rest in
+    let low : nat_le 128 c ≡ false = false_from_ne_true _ (λ e. absurd (cc)) in
+    and_from _ _ (cc) (narrow_before front rest (cc))
 
 pub byte_strings_have_values : (text : List ℕ) →
     (After 98 (IsString Bytes) text × (is_wrong Bytes text ≡ false)) ⊎ IsRawString Bytes text →

@@ -1,15 +1,15 @@
 -- A string literal that is written character by character is read as one, and its value is the
 -- text.
-use Rattle.std.proofs.Common.{◌≡◌, ◌∙◌, ℕ, zero, suc, List, [], ◌∷◌, ◌++◌, None, Some, false, refl}
-use Rattle.std.proofs.Common.{sym, ap, arith, append_assoc, inl, subst, true}
-use Rattle.std.specs.Prelude.{◌==◌, ◌||◌, codes, encode_utf8_all}
+use Rattle.std.proofs.Common.{◌≡◌, ◌∙◌, ℕ, List, [], ◌∷◌, ◌++◌, None, Some, false, refl}
+use Rattle.std.proofs.Common.{sym, arith, append_assoc, inl, true}
+use Rattle.std.specs.Prelude.{◌==◌, codes, encode_utf8_all}
 use Rattle.std.specs.List.{flat_map}
-use Rattle.std.specs.Str.{IsAscii, IsUtf8, chars}
+use Rattle.std.specs.Str.{IsUtf8, chars}
 use lib.Utf8.{scalars}
 use Rattle.std.proofs.lemmas.Bool.{and_from, and_parts}
 use Rattle.std.proofs.lemmas.List.{append-nil}
 use Rattle.std.proofs.lemmas.List.Folds.{list_any-append}
-use Rattle.std.proofs.lemmas.Str.{chars-encodes, encodes-IsAscii, encodes-append, encodes-chars}
+use Rattle.std.proofs.lemmas.Str.{chars-encodes, encodes-append, encodes-chars}
 use Rattle.std.proofs.lemmas.Str.{scalars-chars}
 use Rattle.tok_lexical.specs.Contents.{has_return, is_wrong}
 use Rattle.tok_lexical.specs.Errors.{error_kind}
@@ -26,7 +26,7 @@ use Rattle.tok_lexical.proofs.BareReturns.{none_bare, text_unfit}
 use Rattle.tok_lexical.proofs.First.{decides_begun}
 use Rattle.tok_values.specs.Laws.{IsOnePiece}
 use Rattle.tok_values.specs.Strings.{IsStringValue, Means, more, nothing, unit}
-use Rattle.tok_values.proofs.Quoted.{scalars-append}
+use Rattle.tok_values.proofs.Quoted.{one_byte, scalars-append}
 
 -- a whole text is the longest front of itself
 pub whole : (S : List ℕ → Type 0) (text : List ℕ) → S text → IsLongestPrefix S text text []
@@ -45,7 +45,7 @@ abbrev pub NoReturn : List ℕ → Type 0
 NoReturn text = has_return text ≡ false
 
 pub both_kept : (xs ys : List ℕ) → NoReturn xs → NoReturn ys → NoReturn (xs ++ ys)
-both_kept xs ys h k = list_any-append (λ c. c == 13) xs ys ∙ ap (λ b. b || has_return ys) h ∙ k
+both_kept xs ys h k = rw (list_any-append (λ c. c == 13) xs ys, h) k
 
 unrejected : (mode : Mode) (at : ℕ) (piece : List ℕ) → NoReturn piece →
     error_kind (QuotedString Text) mode at piece [] ≡ None
@@ -57,11 +57,7 @@ unrejected (Source edition) at piece h =
     rw fits refl
 
 quote_bytes : encode_utf8_all (34 ∷ []) ≡ codes "\""
-quote_bytes = encodes-IsAscii (34 ∷ []) ascii
-  where
-    ascii : IsAscii (34 ∷ [])
-    ascii zero = omega arith
-    ascii (suc i) = omega arith
+quote_bytes = one_byte 34 (omega arith)
 
 -- how each character is written, as characters and as bytes
 pub record IsWriting (write bytes : ℕ → List ℕ) : Type 0 where
@@ -79,9 +75,7 @@ module _ (write bytes : ℕ → List ℕ) (w : IsWriting write bytes) where
   all_encoded : (cs : List ℕ) → encode_utf8_all (flat_map write cs) ≡ flat_map bytes cs
   all_encoded [] = refl
   all_encoded (c ∷ cs) =
-      encodes-append (write c) (flat_map write cs)
-      ∙ ap (λ v. v ++ encode_utf8_all (flat_map write cs)) (w.encoded c)
-      ∙ ap (λ v. bytes c ++ v) (all_encoded cs)
+      cc (encodes-append (write c) (flat_map write cs), w.encoded c, all_encoded cs)
 
   all_scalars : (cs : List ℕ) → scalars cs ≡ true → scalars (flat_map write cs) ≡ true
   all_scalars [] h = refl
@@ -95,8 +89,7 @@ module _ (write bytes : ℕ → List ℕ) (w : IsWriting write bytes) where
   all_mean (c ∷ cs) h =
       more ((write c ++ flat_map write cs) ++ 34 ∷ []) (flat_map write cs ++ 34 ∷ []) (34 ∷ [])
       (c ∷ []) cs
-      (ap (unit false) (append_assoc (write c) (flat_map write cs) (34 ∷ []))
-      ∙ w.means c (flat_map write cs ++ 34 ∷ []) (first_scalar c cs h))
+      (rw append_assoc (w.means c (flat_map write cs ++ 34 ∷ []) (first_scalar c cs h)))
       (all_mean cs (and_parts _ (scalars cs) h).1)
 
   all_units : (cs : List ℕ) → scalars cs ≡ true → AreUnits Text (flat_map write cs)
@@ -119,14 +112,15 @@ module _ (write bytes : ℕ → List ℕ) (w : IsWriting write bytes) where
   literal_chars cs h =
       let inner = flat_map write cs ++ 34 ∷ [] in
       let same : encode_utf8_all ((34 ∷ []) ++ inner) ≡ literal cs =
-      encodes-append (34 ∷ []) inner ∙ ap (λ v. v ++ encode_utf8_all inner) quote_bytes
-      ∙ ap (λ v. codes "\"" ++ v) (encodes-append (flat_map write cs) (34 ∷ [])
-      ∙ ap (λ v. v ++ encode_utf8_all (34 ∷ [])) (all_encoded cs)
-      ∙ ap (λ v. flat_map bytes cs ++ v) quote_bytes) in
-      ap chars (sym same)
-      ∙ chars-encodes (34 ∷ inner)
+      cc (
+        encodes-append (34 ∷ []) inner,
+        quote_bytes,
+        encodes-append (flat_map write cs) (34 ∷ []),
+        all_encoded cs,
+      ) in
+      rw (← same) (chars-encodes (34 ∷ inner)
       (scalars-append (34 ∷ []) inner refl
-      (scalars-append (flat_map write cs) (34 ∷ []) (all_scalars cs h) refl))
+      (scalars-append (flat_map write cs) (34 ∷ []) (all_scalars cs h) refl)))
 
   pub keeps_text : (text : List ℕ) → IsUtf8 text → IsStringValue (chars (literal (chars text))) text
   keeps_text text u =
@@ -147,7 +141,7 @@ module _ (write bytes : ℕ → List ℕ) (w : IsWriting write bytes) where
       let inner : List ℕ = flat_map write (chars text) ++ 34 ∷ [] in
       let kept : NoReturn (34 ∷ inner) =
       both_kept (flat_map write (chars text)) (34 ∷ []) (all_kept (chars text) h) refl in
-      subst (IsOnePiece mode (QuotedString Text)) (sym (literal_chars (chars text) h)) (
+      rw (literal_chars (chars text) h) (
         decides_begun mode 34 inner start.Quote refl refl
             (here (whole (Spells (QuotedString Text)) (34 ∷ inner)
             (flat_map write (chars text), [], refl, all_units (chars text) h, inl refl))),

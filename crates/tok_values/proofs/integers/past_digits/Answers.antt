@@ -1,6 +1,4 @@
-use Rattle.std.proofs.Common.{length, subst}
 use Rattle.tok_lexical.specs.Numbers.{is_digit_or_underscore}
-use Rattle.tok_lexical.specs.Private.Scans.{IsRun}
 use Rattle.tok_lexical.proofs.Runs.{run_boundary, skips_run}
 use Rattle.tok_values.proofs.Numerals.{digits_ascii_test}
 use Rattle.tok_values.proofs.integers.past_digits.Goals as goal
@@ -9,8 +7,7 @@ pub split_at-requires : goal.split_at-requires
 split_at-requires c =
     run_boundary (is_digit_or_underscore c.args.radix)
     (digits_ascii_test c.args.radix c.requires.high) _ _ c.utf8.text
-    (subst (λ w. IsRun (is_digit_or_underscore c.args.radix) w 0 (length w) c.digits_len.result)
-    c.as_bytes.ensures.value c.digits_len.ensures)
+    (rw c.as_bytes.ensures.value at c.digits_len.ensures)
 
 pub returns : goal.returns
 returns c =
@@ -19,6 +16,5 @@ returns c =
       skips_run (is_digit_or_underscore c.args.radix)
           (digits_ascii_test c.args.radix c.requires.high) _ _ _ _ c.utf8.text parts.front
           parts.back parts.front_len parts.back_len
-          (subst (λ w. IsRun (is_digit_or_underscore c.args.radix) w 0 (length w)
-          c.digits_len.result) c.as_bytes.ensures.value c.digits_len.ensures),
+          (rw c.as_bytes.ensures.value at c.digits_len.ensures),
     )

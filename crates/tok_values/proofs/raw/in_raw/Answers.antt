@@ -1,6 +1,4 @@
-use Rattle.std.proofs.Common.{subst, sym}
-use Rattle.std.specs.Str.{chars}
-use Rattle.tok_values.proofs.RawStrings.{raw_value, ReadsRaw}
+use Rattle.tok_values.proofs.RawStrings.{raw_value}
 use Rattle.tok_values.proofs.raw.in_raw.Goals as goal
 
 pub returns-clause-value : goal.returns-clause-value
@@ -10,5 +8,4 @@ returns-clause-value c =
 
 pub returns-in_err-quoted-clause-value : goal.returns-in_err-quoted-clause-value
 returns-in_err-quoted-clause-value c =
-    subst (ReadsRaw (chars c.args.text.now)) (sym c.from_residual.ensures)
-    (λ value h. c.in_err-quoted.ensures.chars h.0 h.1)
+    rw c.from_residual.ensures (λ value h. c.in_err-quoted.ensures.chars h.0 h.1)

@@ -1,4 +1,4 @@
-use Rattle.std.proofs.Common.{◌≡◌, ◌∙◌, ℕ, List, [], ◌∷◌, ◌++◌, Some, true, ap, subst}
+use Rattle.std.proofs.Common.{◌≡◌, ◌∙◌, ℕ, List, [], ◌∷◌, ◌++◌, Some, true, ap}
 use Rattle.std.specs.Str.{chars}
 use Rattle.std.proofs.lemmas.List.{append-nil}
 use Rattle.tok_values.specs.Strings.{Means, characters_of}
@@ -33,8 +33,7 @@ loop-c-preserved c =
       )
       | in_default-c w ↦ (
         i.0,
-        subst (Means true text after) (append-nil i.0)
-            (unit_more true text rest after i.0 [] i.1
+        rw append-nil at (unit_more true text rest after i.0 [] i.1
             (finds ∙ ap (λ o. Some (characters_of o, after)) w.in_default-c.is)),
         ap (λ v. v.items) w.to-is ∙ i.2,
       )

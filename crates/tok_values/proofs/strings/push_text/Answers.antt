@@ -1,4 +1,4 @@
-use Rattle.std.proofs.Common.{◌≡◌, ◌∙◌, ℕ, List, [], ◌∷◌, ◌++◌, Some, false, ap, subst}
+use Rattle.std.proofs.Common.{◌≡◌, ◌∙◌, ℕ, List, [], ◌∷◌, ◌++◌, Some, false, ap}
 use Rattle.std.specs.Prelude.{encode_utf8_all, string_bytes}
 use Rattle.std.specs.Str.{chars}
 use Rattle.std.proofs.lemmas.List.{append-nil}
@@ -34,8 +34,7 @@ loop-c-preserved c =
       )
       | in_default-c w ↦ (
         i.0,
-        subst (Means false text after) (append-nil i.0)
-            (unit_more false text rest after i.0 [] i.1
+        rw append-nil at (unit_more false text rest after i.0 [] i.1
             (finds ∙ ap (λ o. Some (characters_of o, after)) w.in_default-c.is)),
         ap string_bytes w.to-is ∙ i.2,
       )

@@ -1,9 +1,6 @@
-use Rattle.std.proofs.Common.{subst, sym, List, ℕ, ◌≡◌, ◌++◌}
 use Rattle.std.specs.Str.{chars}
 use Rattle.tok_values.proofs.Fronts.{suffix_ends}
 use Rattle.tok_values.proofs.suffixes.before_suffix.Goals as goal
 
 pub front_of-requires : goal.front_of-requires
-front_of-requires c =
-    subst (λ w. (front : List ℕ) × (chars c.args.text.now ≡ front ++ w))
-    (sym c.literal_suffix.ensures) (suffix_ends (chars c.args.text.now))
+front_of-requires c = rw c.literal_suffix.ensures (suffix_ends (chars c.args.text.now))
