@@ -136,14 +136,10 @@ pub made : (prefix mark : ℕ) (bytes : List ℕ) → prefix < 128 → mark < 12
 made prefix mark bytes p q both last h =
     let inner = flat_map escape_ascii bytes ++ mark ∷ [] in
     let opening : List ℕ = prefix ∷ mark ∷ [] in
+    let first = encodes-append opening inner in
+    let last_two = encodes-append (flat_map escape_ascii bytes) (mark ∷ []) in
     let encoded : encode_utf8_all (opening ++ inner) ≡ bytes_between opening bytes (mark ∷ []) =
-    cc (
-      encodes-append opening inner,
-      two prefix mark p q,
-      encodes-append (flat_map escape_ascii bytes) (mark ∷ []),
-      all_encoded bytes,
-      one_byte mark q,
-    ) in
+    cc (two prefix mark p q, all_encoded bytes, one_byte mark q) in
     rw (← encoded) (chars-encodes (prefix ∷ mark ∷ inner)
     (scalars-append opening inner both
     (scalars-append (flat_map escape_ascii bytes) (mark ∷ []) (all_scalars bytes h) last)))
@@ -206,4 +202,4 @@ byte_strings_are_read edition bytes h =
         let right = fits (98 ∷ 34 ∷ inner)
         (both_even (98 ∷ 34 ∷ []) inner refl
         (both_even (flat_map escape_ascii bytes) (34 ∷ []) (all_even bytes h) refl)) in
-        rw right refl
+        rw right

@@ -187,10 +187,8 @@ c_strings_are_read edition bytes reserves h none =
 
     right : is_wrong C piece ≡ false
     right =
-        rw (
-          none_bare piece (has_return piece) (λ e. e) (no_return piece even),
-          no_misfit piece seen,
-        ) (all_no_zero bytes some)
+        rw (none_bare piece (has_return piece) (λ e. e) (no_return piece even))
+        (rw (no_misfit piece seen) (all_no_zero bytes some))
 
     unrejected : error_kind (QuotedString C) (Source edition) 0 piece [] ≡ None
-    unrejected = rw right refl
+    unrejected = rw right

@@ -39,7 +39,7 @@ Counts text meaning = has_null meaning ≡ zeros text
 joined : (front after text meaning : List ℕ) (z : Bool) → has_null front ≡ z →
     zeros text ≡ (z || zeros after) → Counts after meaning → Counts text (front ++ meaning)
 joined front after text meaning z e f h =
-    rw (list_any-append (λ c. c == 0) front meaning, e, h, f) refl
+    rw (list_any-append (λ c. c == 0) front meaning, e, h, f)
 
 regroup : (a b c : Bool) → ((a || b) || c) ≡ ((a || false) || (b || c))
 regroup a b c = grind arith
@@ -51,7 +51,7 @@ plain_counts : (c : ℕ) (rest : List ℕ) → (c == 34) ≡ false → (c == 92)
     (c == 13) ≡ false → Begins c_unit Counts (c ∷ rest) rest
 plain_counts c rest quote slash return = (
   encode_utf8_all (c ∷ []),
-  c_some (c ∷ rest) (c ∷ []) rest false (rw slash refl)
+  c_some (c ∷ rest) (c ∷ []) rest false (rw slash)
       (plain_unit false c rest slash quote return refl),
   λ m h. joined (encode_utf8_all (c ∷ [])) rest (c ∷ rest) m ((c == 0) || false)
       (all_encoded_null (c ∷ []))
@@ -107,9 +107,9 @@ escape_counts text rest (inl (hex {text = digits} h)) =
     inl (named_counts true (120 ∷ digits) rest refl (hex_names true digits rest h))
 escape_counts text rest (inl (code e h)) = absurd (false≢true (sym e))
 escape_counts text rest (inl (line_end e (inl f))) =
-    line_counts text rest (rw f refl) (rw f refl)
+    line_counts text rest (rw f) (rw f)
 escape_counts text rest (inl (line_end e (inr f))) =
-    line_counts text rest (rw f refl) (rw f refl)
+    line_counts text rest (rw f) (rw f)
 escape_counts text rest (inr (braced, e, h)) =
     rw e (inl (named_counts false (117 ∷ braced) rest refl (code_names braced rest h)))
 
@@ -126,7 +126,7 @@ all_fit (c ∷ text) = all_fit text
 
 -- a suffix has neither U+0000 nor a backslash
 suffix_other : (suffix : List ℕ) → IsSuffix suffix → list_all (is_neither 0 92) suffix ≡ true
-suffix_other suffix (inl e) = rw e refl
+suffix_other suffix (inl e) = rw e
 suffix_other [] (inr h) = refl
 suffix_other (c ∷ suffix) (inr h) =
     and_from _ _

@@ -11,11 +11,11 @@ module _ (text start digits after : List ℕ) (cut : text ≡ 123 ∷ start)
   pub code_is : code text ≡ (if begins_with 125 after then and_rest (named_char digits)
       (after_first after) else None)
   code_is =
-      let w = first_parts 125 start digits after s in rw (cut, w.1, w.0) refl
+      let w = first_parts 125 start digits after s in rw (cut, w.1, w.0)
 
   pub code_open : ((rest : List ℕ) → after ≡ 125 ∷ rest → ⊥) → code text ≡ None
   code_open misses =
-      rw (code_is, unbegun after misses) refl
+      rw (code_is, unbegun after misses)
     where
       unbegun : (xs : List ℕ) → ((rest : List ℕ) → xs ≡ 125 ∷ rest → ⊥) → begins_with 125 xs ≡ false
       unbegun [] h = refl
@@ -24,4 +24,4 @@ module _ (text start digits after : List ℕ) (cut : text ≡ 123 ∷ start)
   pub code_closed : (rest : List ℕ) → after ≡ 125 ∷ rest
       → code text ≡ and_rest (named_char digits) rest
   code_closed rest e =
-      rw (code_is, e) refl
+      rw (code_is, e)

@@ -74,7 +74,7 @@ marks_identifier rest (c ∷ cs) h =
     simp (no_mark is_identifier_start mark_begins_none c h.0) (marks_continue rest cs h.1)
 
 marks_suffix : (rest suffix : List ℕ) → IsSuffix suffix → after_marks rest suffix ≡ rest
-marks_suffix rest suffix (inl e) = rw e refl
+marks_suffix rest suffix (inl e) = rw e
 marks_suffix rest suffix (inr i) = marks_identifier rest suffix i
 
 marks_found : (rest front : List ℕ) (mark : ℕ) (suffix : List ℕ) → is_mark mark ≡ true →

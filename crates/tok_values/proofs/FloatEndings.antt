@@ -95,7 +95,7 @@ tail_found piece (inr exponent) =
     rw (exponent_no_fraction piece exponent) (exponent_found piece exponent)
 
 tail_stops : (piece : List ℕ) → IsFloatTail piece → Stops (is_digit_or_underscore 10) piece
-tail_stops piece (inl (more, cut, fraction)) = rw cut refl
+tail_stops piece (inl (more, cut, fraction)) = rw cut
 tail_stops piece (inr exponent) = exponent_stops piece exponent
 
 -- a character that may come second in a float: it names no base
@@ -110,7 +110,7 @@ letter_second : (c : ℕ) → ((c == 101) || (c == 69)) ≡ true → is_second c
 letter_second c h = grind (arith, nat_tests)
 
 tail_begins : (piece : List ℕ) → IsFloatTail piece → Begins piece
-tail_begins piece (inl (more, cut, fraction)) = rw cut refl
+tail_begins piece (inl (more, cut, fraction)) = rw cut
 tail_begins [] (inr exponent) = absurd exponent
 tail_begins (c ∷ more) (inr (letter, signed)) = letter_second c letter
 
@@ -143,7 +143,7 @@ after_all : (digits tail : List ℕ) → list_all (is_digit_or_underscore 10) di
     starts_digit digits ≡ true → Begins tail → Stops (is_digit_or_underscore 10) tail →
     number_suffix (digits ++ tail) ≡ after_exponent (after_fraction tail)
 after_all digits tail all starts begins stops =
-    rw (decimal_base digits tail all starts begins, digits_pass 10 digits tail all stops) refl
+    rw (decimal_base digits tail all starts begins, digits_pass 10 digits tail all stops)
 
 -- a number has its suffix as a literal, and so it has after a minus sign
 both_have : (text suffix : List ℕ) → starts_digit text ≡ true → number_suffix text ≡ suffix →
@@ -159,7 +159,7 @@ floats_have_their_suffix text (digits, tail, cut, all, starts, rest) =
 pub pointed_have_no_suffix : PointedHaveNoSuffix
 pointed_have_no_suffix text (digits, tail, cut, all, starts, dot) =
     both_have text _ (rw cut (starts_on digits tail starts))
-    (rw (cut, after_all digits tail all starts (rw dot refl) (rw dot refl), dot) refl)
+    (rw (cut, after_all digits tail all starts (rw dot refl) (rw dot refl), dot))
 
 -- a text that names no base is read whole
 two_whole : (c d : ℕ) (rest : List ℕ) → (base_of (c ∷ d ∷ rest)).0 ≡ 10 →
@@ -176,9 +176,5 @@ pub decimals_have_their_suffix : (text : List ℕ) (decimal : IsDecimal text) �
     (base_of text).0 ≡ 10 → literal_suffix text ≡ decimal.1
 decimals_have_their_suffix text (digits, tail, cut, all, starts, rest) ten =
     let starts_text : starts_digit text ≡ true = rw cut (starts_on digits tail starts) in
-    rw (
-      number_literal text starts_text,
-      base_whole text ten,
-      cut,
-      digits_pass 10 digits tail all (decimal_ends tail rest),
-    ) (suffix_stays tail rest)
+    rw (number_literal text starts_text, base_whole text ten)
+    (rw (cut, digits_pass 10 digits tail all (decimal_ends tail rest)) (suffix_stays tail rest))

@@ -189,12 +189,8 @@ first_byte c rest = at (encode_utf8_all (c ∷ rest)) refl
 
     at : (bytes : List ℕ) → encode_utf8_all (c ∷ rest) ≡ bytes → BeginsAs c bytes
     at [] e =
-        absurd (omega (
-          arith,
-          ap length e,
-          length-append (encode_utf8 c) (encode_utf8_all rest),
-          some,
-        ))
+        let l = length-append (encode_utf8 c) (encode_utf8_all rest) in
+        absurd (omega (arith, ap length e, l, some))
     at (b ∷ more) e = elim (cases_lt b 128) [
       | inl low ↦
           let same = inside_one c (encode_utf8_all rest) (b ∷ more) 0 (sym e) some low in
@@ -209,12 +205,10 @@ module _ (bytes suffix : List ℕ) (u : IsUtf8 bytes) (starts : starts_digit (ch
   after_front = encode_utf8_all suffix
 
   joined : bytes ≡ r.front ++ after_front
-  joined = cc (
-    encodes-chars bytes u,
-    r.cut,
-    encodes-append r.front suffix,
-    encodes-IsAscii r.front (parts_ascii r.front r.parts),
-  )
+  joined =
+      let whole = encodes-chars bytes u in
+      let parts = encodes-append r.front suffix in
+      cc (r.cut, encodes-IsAscii r.front (parts_ascii r.front r.parts))
 
   front_begins : (more : List ℕ) → starts_digit (r.front ++ more) ≡ true
   front_begins more =

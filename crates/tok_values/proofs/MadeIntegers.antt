@@ -224,8 +224,8 @@ module _ (c : ℕ) (digits suffix : List ℕ) (h : AreDigits (c ∷ digits)) (w 
           (start_digit c first e)
 
   unrejected : (mode : Mode) (at : ℕ) → error_kind Decimal mode at text [] ≡ None
-  unrejected Plain at = rw (and_right (is_bare 10 text) false refl) refl
-  unrejected Marked at = rw (and_right (is_bare 10 text) false refl) refl
+  unrejected Plain at = rw (and_right (is_bare 10 text) false refl)
+  unrejected Marked at = rw (and_right (is_bare 10 text) false refl)
   unrejected (Source edition) at = refl
 
   read : (mode : Mode) → IsOnePiece mode Decimal text

@@ -42,7 +42,7 @@ module _ (radix : ℕ) (small : radix ≤ 16) where
 
   fold_one : (c n : ℕ) → fold (step radix) n (encode_utf8 c) ≡ step radix n c
   fold_one c n = elim (cases_lt c 128) [
-    | inl low ↦ rw (encode_ascii c low) refl
+    | inl low ↦ rw (encode_ascii c low)
     | inr high ↦
         fold_none (encode_utf8 c) n (λ k h p.
         let low = digit_low radix (get_or (encode_utf8 c) k 0) small p in

@@ -42,7 +42,7 @@ raw_value text quoted e (Some value) u read =
 -- A raw string ends with a quote or a number sign, and so its suffix is what follows the last of
 -- these.
 sign_mark : (c : ℕ) → (c == 35) ≡ true → is_mark c ≡ true
-sign_mark c h = rw (eqb-true c 35 h) refl
+sign_mark c h = rw (eqb-true c 35 h)
 
 last_mark : (c : ℕ) (signs : List ℕ) → is_mark c ≡ true → list_all (λ d. d == 35) signs ≡ true →
     (front : List ℕ) × (mark : ℕ) × (is_mark mark ≡ true) × (c ∷ signs ≡ front ++ mark ∷ [])
@@ -59,10 +59,7 @@ raw_ends raw value (quoted, e, (contents, (signs, f, a, l, m), is)) =
       signs ++ 34 ∷ (contents ++ front),
       mark,
       last,
-      cc (
-        append_assoc contents front (mark ∷ []),
-        append_assoc signs (34 ∷ (contents ++ front)) (mark ∷ []),
-      ),
+      rw (e, f, g) (simp append_assoc),
     )
 
 pub raw_suffix : (text raw suffix value : List ℕ) → text ≡ raw ++ suffix →

@@ -64,10 +64,7 @@ pub run_encoded : (old new now characters front : List ℕ) →
     new ≡ old ++ encode_utf8_all characters → now ≡ new ++ encode_utf8_all front →
     now ≡ old ++ encode_utf8_all (characters ++ front)
 run_encoded old new now characters front e h =
-    cc (
-      append_assoc old (encode_utf8_all characters) (encode_utf8_all front),
-      encodes-append characters front,
-    )
+    rw (h, e, encodes-append, append_assoc)
 
 pub run_appended : (old new now characters front : List ℕ) → new ≡ old ++ characters →
     now ≡ new ++ front → now ≡ old ++ (characters ++ front)

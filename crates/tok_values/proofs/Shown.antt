@@ -154,12 +154,8 @@ module _ (c : ℕ) (text : List ℕ) (s : scalar c ≡ true) (w : IsCodeOf c tex
   code_unit : IsUnit Text text
   code_unit =
       let few : count_by is_hex digits ≤ 6 =
-      omega (
-        arith,
-        count_by-le-length is_hex digits,
-        length-map (w.first ∷ w.more) digit_char,
-        w.few,
-      ) in
+      let size = length-map (w.first ∷ w.more) digit_char in
+      omega (arith, count_by-le-length is_hex digits, size, w.few) in
       rw w.is (escape (code refl (
         digit_char w.first,
         map digit_char w.more,

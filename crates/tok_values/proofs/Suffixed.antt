@@ -59,13 +59,13 @@ c_quote_stops rest = refl
 pub c_none : (text : List ℕ) (is_byte : Bool) → is_byte ≡ names_byte text → unit is_byte text ≡ None
     → c_unit text ≡ None
 c_none text is_byte e h =
-    rw (← e, h) refl
+    rw (← e, h)
 
 pub c_some : (text characters rest : List ℕ) (is_byte : Bool) → is_byte ≡ names_byte text →
     unit is_byte text ≡ Some (characters, rest) →
     c_unit text ≡ Some (bytes_of is_byte characters, rest)
 c_some text characters rest is_byte e h =
-    rw (← e, h) refl
+    rw (← e, h)
 
 -- a string has one value
 module _ (unit_of : List ℕ → Option (List ℕ × List ℕ))

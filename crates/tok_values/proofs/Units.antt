@@ -41,8 +41,4 @@ pub encoded_more : (old new now : List ℕ) (characters : List ℕ) (c : ℕ)
     → new ≡ old ++ encode_utf8_all characters
     → now ≡ new ++ encode_utf8 c → now ≡ old ++ encode_utf8_all (characters ++ c ∷ [])
 encoded_more old new now characters c e h =
-    cc (
-      append_assoc old (encode_utf8_all characters) (encode_utf8 c),
-      encodes-append characters (c ∷ []),
-      append-nil (encode_utf8 c),
-    )
+    rw (h, e, encodes-append, append-nil, append_assoc)

@@ -215,9 +215,9 @@ any_escape wide text rest (code {text = braced} e h) =
     let n : Names wide (117 ∷ braced) rest = rw e (code_names braced rest h) in
     inl (n.char ∷ [], named_unit n, λ m f. tt)
 any_escape wide text rest (line_end e (inl f)) =
-    inr ([], rw f refl, λ m g. tt)
+    inr ([], rw f, λ m g. tt)
 any_escape wide text rest (line_end e (inr f)) =
-    inr ([], rw f refl, λ m g. tt)
+    inr ([], rw f, λ m g. tt)
 
 by_units : (kind : Contents) (wide : Bool) →
     ((text : List ℕ) → EscapeOf kind text → IsEscape true wide text) →

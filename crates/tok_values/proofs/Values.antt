@@ -39,7 +39,7 @@ finds : (n : ℕ) (text rest characters : List ℕ) → Means false text rest ch
 finds zero _ _ _ (nothing text) r h = let k = ap length r in absurd (omega (arith, k, h))
 finds zero _ _ _ (more text after rest front characters e m) r h =
     let k = unit_lowers false text front after e in absurd (omega (arith, k, h))
-finds (suc n) _ _ _ (nothing text) r h = rw r refl
+finds (suc n) _ _ _ (nothing text) r h = rw r
 finds (suc n) _ _ _ (more text after rest front characters e m) r h =
     let k = unit_lowers false text front after e in
     let again = finds n after rest characters m r (omega (arith, k, h)) in

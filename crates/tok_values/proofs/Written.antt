@@ -54,7 +54,7 @@ unrejected Marked at piece h = refl
 unrejected (Source edition) at piece h =
     let fits : is_wrong Text piece ≡ false =
     sym (text_unfit piece) ∙ none_bare piece (has_return piece) (λ e. e) h in
-    rw fits refl
+    rw fits
 
 quote_bytes : encode_utf8_all (34 ∷ []) ≡ codes "\""
 quote_bytes = one_byte 34 (omega arith)
@@ -111,13 +111,10 @@ module _ (write bytes : ℕ → List ℕ) (w : IsWriting write bytes) where
       → chars (literal cs) ≡ 34 ∷ (flat_map write cs ++ 34 ∷ [])
   literal_chars cs h =
       let inner = flat_map write cs ++ 34 ∷ [] in
+      let front = encodes-append (34 ∷ []) inner in
+      let back = encodes-append (flat_map write cs) (34 ∷ []) in
       let same : encode_utf8_all ((34 ∷ []) ++ inner) ≡ literal cs =
-      cc (
-        encodes-append (34 ∷ []) inner,
-        quote_bytes,
-        encodes-append (flat_map write cs) (34 ∷ []),
-        all_encoded cs,
-      ) in
+      cc (quote_bytes, all_encoded cs) in
       rw (← same) (chars-encodes (34 ∷ inner)
       (scalars-append (34 ∷ []) inner refl
       (scalars-append (flat_map write cs) (34 ∷ []) (all_scalars cs h) refl)))

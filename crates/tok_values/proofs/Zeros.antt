@@ -68,11 +68,7 @@ encoded_null c =
 pub all_encoded_null : (text : List ℕ) → has_null (encode_utf8_all text) ≡ has_null text
 all_encoded_null [] = refl
 all_encoded_null (c ∷ text) =
-    rw (
-      list_any-append (λ b. b == 0) (encode_utf8 c) (encode_utf8_all text),
-      encoded_null c,
-      all_encoded_null text,
-    ) refl
+    rw (list_any-append, encoded_null, all_encoded_null text)
 
 pub no_misfit : (text : List ℕ) → has_null text ≡ false → has_misfit C text ≡ false
 no_misfit [] h = refl
