@@ -117,6 +117,7 @@ no_start rest (piece, after, cut, e) =
 
 -- the first rule that fits, in the editions that have it
 module _ (inner : List ℕ) (spelled : Spells (QuotedString C) (99 ∷ 34 ∷ inner)) where
+  -- the characters of the literal
   abbrev text : List ℕ
   text = 99 ∷ 34 ∷ inner
 

@@ -11,8 +11,7 @@ use Rattle.unicode_ident.specs.Ident.{is_xid_continue}
 use Rattle.unicode_ident.proofs.IdentLemmas.{is_xid_continue-ascii}
 use Rattle.tok_lexical.specs.Contents.{has_bare_return, has_misfit, has_zero, is_wrong}
 use Rattle.tok_lexical.specs.Pieces.{is_neither}
-use Rattle.tok_lexical.specs.Strings.{IsCEscape}
-use Rattle.tok_lexical.specs.Strings.{code, hex, line_end, simple}
+use Rattle.tok_lexical.specs.Strings.{IsCEscape, code, hex, line_end, simple}
 use Rattle.tok_lexical.specs.Words.{IsSuffix, is_identifier_start}
 use Rattle.tok_lexical.specs.declared.contents.Contents.TheVariants.{C}
 use Rattle.tok_lexical.proofs.Identifiers.{letter_start}
@@ -173,11 +172,7 @@ raw_counted string value (raw, suffix, cut, (quoted, e, (contents, (signs, f, a,
     let front : List ℕ = 99 ∷ 114 ∷ (signs ++ 34 ∷ contents) in
     let rest : List ℕ = signs ++ suffix in
     let all : 99 ∷ string ≡ front ++ 34 ∷ rest =
-    ap (λ w. 99 ∷ w) (cut ∙ ap (λ w. w ++ suffix) e)
-    ∙ ap (λ w. 99 ∷ 114 ∷ (w ++ suffix)) f
-    ∙ ap (λ w. 99 ∷ 114 ∷ w) (append_assoc signs (34 ∷ (contents ++ 34 ∷ signs)) suffix
-    ∙ ap (λ w. signs ++ 34 ∷ w) (append_assoc contents (34 ∷ signs) suffix)
-    ∙ sym (append_assoc signs (34 ∷ contents) (34 ∷ rest))) in
+    rw (cut, e, f) (simp append_assoc) in
     let other = all_neither 0 92 (λ c. c == 35) refl refl signs a in
     let none : has_null rest ≡ false =
     (passed signs suffix other).0 ∙ (suffix_passed suffix s).0 in

@@ -81,6 +81,7 @@ value = between_cases HasValue refl refl refl refl refl refl refl (λ c slash h.
 
 -- one piece
 module _ (mode : Mode) where
+  -- between apostrophes this is one character literal
   abbrev IsPiece : List ℕ → Type 0
   IsPiece x = IsOneChar mode (39 ∷ (x ++ 39 ∷ []))
 

@@ -12,6 +12,7 @@ use Rattle.tok_lexical.proofs.Digits.{all_stops}
 use Rattle.tok_values.specs.Integers.{IsDigits, IsInteger, base_of}
 use Rattle.tok_values.specs.Numbers.{number}
 
+-- a number with one more digit, if the character is one
 abbrev pub step : ℕ → ℕ → ℕ → ℕ
 step radix n c = if is_digit c radix then n * radix + digit_value c else n
 

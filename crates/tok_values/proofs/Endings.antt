@@ -15,8 +15,7 @@ use Rattle.tok_lexical.proofs.Identifiers.{letter_start}
 use Rattle.tok_values.specs.Integers.{base_of, IsInteger}
 use Rattle.tok_values.specs.Suffixes.{after_digits, after_exponent, after_fraction, after_marks}
 use Rattle.tok_values.specs.Suffixes.{IntegersHaveTheirSuffix, is_mark, literal_suffix}
-use Rattle.tok_values.specs.Suffixes.{number_suffix}
-use Rattle.tok_values.specs.Suffixes.{QuotedHaveTheirSuffix, without_minus}
+use Rattle.tok_values.specs.Suffixes.{number_suffix, QuotedHaveTheirSuffix, without_minus}
 use Rattle.std.proofs.lemmas.Bool.{false_from_ne_true, not-true, or_parts}
 use Rattle.std.proofs.lemmas.Bool.Decides.{nat_tests}
 

@@ -97,7 +97,7 @@ code_names text rest (first, digits, e, h, all, names) =
     let are : is_digits 16 (first ∷ digits) ≡ true = and_from _ _ (or_left _ _ h) hex in
     let named : named_char (first ∷ digits) ≡ Some value =
     simp are (ap (λ b. if b then Some value else None) names.scalar) in
-    let after : List ℕ = first ∷ (digits ++ 125 ∷ rest) in
+    let apart = append_assoc digits (125 ∷ []) rest in
     let other = passed (first ∷ digits) (125 ∷ rest)
     (all_neither 0 92 is_hex_or_underscore refl refl (first ∷ digits) hex) in
     let closed = code_closed (123 ∷ first ∷ (digits ++ 125 ∷ rest)) (first ∷ (digits ++ 125 ∷ rest))
@@ -109,15 +109,9 @@ code_names text rest (first, digits, e, h, all, names) =
       char = value;
       is =
           ap (λ t. escape false (117 ∷ (t ++ rest))) e
-          ∙ ap (λ t. escape false (117 ∷ 123 ∷ first ∷ t)) (append_assoc digits (125 ∷ []) rest)
-          ∙ closed ∙ ap (λ o. and_rest o rest) named;
+          ∙ ap (λ t. escape false (117 ∷ 123 ∷ first ∷ t)) apart ∙ closed
+          ∙ ap (λ o. and_rest o rest) named;
       in_line = refl;
-      zero =
-          ap (λ t. has_zero true (117 ∷ (t ++ rest))) e
-          ∙ ap (λ t. has_zero true (117 ∷ 123 ∷ first ∷ t)) (append_assoc digits (125 ∷ []) rest)
-          ∙ ap (λ b. b || has_zero false after) (sym (code_zero (first ∷ digits) rest 0 hex))
-          ∙ ap (λ b. (value == 0) || b) other.1;
-      null =
-          ap (λ t. has_null (t ++ rest)) e
-          ∙ ap (λ t. has_null (first ∷ t)) (append_assoc digits (125 ∷ []) rest) ∙ other.0;
+      zero = cc (e, code_zero (first ∷ digits) rest 0 hex, other.1);
+      null = cc (e, other.0);
     }

@@ -1,7 +1,6 @@
 -- The suffixes of floats.
-use Rattle.std.proofs.Common.{◌≡◌, ◌∙◌, ◌||◌, ◌++◌, ◌∷◌, [], arith, Bool, false}
-use Rattle.std.proofs.Common.{inl, inr}
-use Rattle.std.proofs.Common.{List, refl, true, ℕ}
+use Rattle.std.proofs.Common.{◌≡◌, ◌∙◌, ◌||◌, ◌++◌, ◌∷◌, [], arith, Bool, false, inl, inr, List}
+use Rattle.std.proofs.Common.{refl, true, ℕ}
 use Rattle.std.specs.List.{list_all}
 use Rattle.std.specs.Prelude.{◌==◌}
 use Rattle.std.proofs.lemmas.Bool.{false≢true, not-true, or_parts}
@@ -18,8 +17,7 @@ use Rattle.tok_values.specs.Suffixes.{FloatsHaveTheirSuffix, PointedHaveNoSuffix
 use Rattle.tok_values.specs.Suffixes.{after_exponent, after_fraction, after_sign, exponent_suffix}
 use Rattle.tok_values.specs.Suffixes.{fraction_suffix, literal_suffix, number_suffix}
 use Rattle.tok_values.specs.Suffixes.{signed_suffix, tail_suffix}
-use Rattle.tok_values.proofs.Endings.{digits_pass, minus_literal, number_literal}
-use Rattle.tok_values.proofs.Endings.{suffix_stays}
+use Rattle.tok_values.proofs.Endings.{digits_pass, minus_literal, number_literal, suffix_stays}
 
 -- no sign begins digits
 no_sign : (c : ℕ) → is_digit_or_underscore 10 c ≡ true → ((c == 43) || (c == 45)) ≡ false
@@ -102,6 +100,7 @@ tail_stops piece (inr exponent) = exponent_stops piece exponent
 abbrev is_second : ℕ → Bool
 is_second c = is_digit_or_underscore 10 c || ((c == 46) || ((c == 101) || (c == 69)))
 
+-- a text that such a character begins
 abbrev Begins : List ℕ → Type 0
 Begins [] = ⊥
 Begins (c ∷ rest) = is_second c ≡ true

@@ -163,6 +163,7 @@ two_cuts (y ∷ a) b (x ∷ c) d e =
 abbrev IsName : List ℕ → Type 0
 IsName name = (name ≡ codes "f32") ⊎ (name ≡ codes "f64")
 
+-- the whole text, or the text before the name of a type
 abbrev IsCut : List ℕ → List ℕ → Type 0
 IsCut text front = (front ≡ text) ⊎ ((name : List ℕ) × IsName name × (front ++ name ≡ text))
 
@@ -201,6 +202,7 @@ first_byte c rest = at (encode_utf8_all (c ∷ rest)) refl
 -- a number with another suffix has no value
 module _ (bytes suffix : List ℕ) (u : IsUtf8 bytes) (starts : starts_digit (chars bytes) ≡ true)
     (r : Reads 0 (chars bytes) suffix) (value : Float) (has : float_value bytes ≡ Some value) where
+  -- the bytes after the digits
   abbrev after_front : List ℕ
   after_front = encode_utf8_all suffix
 

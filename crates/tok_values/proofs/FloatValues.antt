@@ -1,11 +1,9 @@
 -- A decimal number without a suffix, or with the name of a type of floats, has a value, and one
 -- with another suffix has none.
-use Rattle.std.proofs.Common.{◌≡◌, ◌∙◌, ℕ, zero, suc, ◌-◌, ◌<◌, ◌≤◌, List, [], ◌∷◌, ◌++◌, Option, None}
-use Rattle.std.proofs.Common.{Some, Bool, true, false, refl, sym, ap, arith, inl, inr}
-use Rattle.std.proofs.Common.{append_assoc}
-use Rattle.std.proofs.Common.{cond, drop, length, length-append}
-use Rattle.std.specs.Prelude.{◌==◌, ◌||◌, ◌&&◌, ◌⊎◌, bytes_eq, codes, is_some, nat_le}
-use Rattle.std.specs.Prelude.{nat_lt, fold}
+use Rattle.std.proofs.Common.{◌≡◌, ◌∙◌, ℕ, zero, suc, ◌-◌, ◌<◌, ◌≤◌, List, [], ◌∷◌, ◌++◌, Option}
+use Rattle.std.proofs.Common.{None, Some, Bool, true, false, refl, sym, ap, arith, inl, inr}
+use Rattle.std.proofs.Common.{append_assoc, cond, drop, length, length-append}
+use Rattle.std.specs.Prelude.{◌==◌, ◌||◌, ◌&&◌, ◌⊎◌, bytes_eq, codes, is_some, nat_le, nat_lt, fold}
 use Rattle.std.specs.Char.{is_ascii_digit, is_digit, to_ascii_lowercase}
 use Rattle.std.specs.Float.{Float, binary64}
 use Rattle.std.specs.Float.Parse.{completes_number, float_scan_step, is_float_text, parse_float}

@@ -1,8 +1,6 @@
 -- The text of a made integer literal is read as one, and its value is the number.
-use Rattle.std.proofs.Common.{◌≡◌, ◌∙◌, ℕ, ◌+◌, ◌*◌, ◌-◌, ◌^◌, ◌<◌, ◌≤◌, List, [], ◌∷◌, ◌++◌}
-use Rattle.std.proofs.Common.{None, Bool, true, false, refl, sym, ap, arith, inl, inr}
-use Rattle.std.proofs.Common.{get_or}
-use Rattle.std.proofs.Common.{length}
+use Rattle.std.proofs.Common.{◌≡◌, ◌∙◌, ℕ, ◌+◌, ◌*◌, ◌-◌, ◌^◌, ◌<◌, ◌≤◌, List, [], ◌∷◌, ◌++◌, None}
+use Rattle.std.proofs.Common.{Bool, true, false, refl, sym, ap, arith, inl, inr, get_or, length}
 use Rattle.std.specs.Prelude.{◌==◌, ◌&&◌, fold, map, nat_lt}
 use Rattle.std.specs.Char.{digit_value, is_ascii_alphabetic, is_ascii_alphanumeric, is_digit}
 use Rattle.std.specs.Fmt.{decimal}
@@ -117,6 +115,7 @@ nothing_more = record {
   no_base = refl;
 }
 
+-- an ASCII letter or digit
 abbrev is_letter : ℕ → Bool
 is_letter c = nat_lt c 128 && is_ascii_alphanumeric c
 
@@ -184,6 +183,7 @@ no_tail text dot exponent (c ∷ more, after, cut, inr (letter, signed)) = cc
 
 -- digits with what follows them
 module _ (c : ℕ) (digits suffix : List ℕ) (h : AreDigits (c ∷ digits)) (w : IsEnding suffix) where
+  -- the characters of the literal
   abbrev text : List ℕ
   text = c ∷ (digits ++ suffix)
 

@@ -1,6 +1,5 @@
 -- A literal has at most one value.
-use Rattle.std.proofs.Common.{◌≡◌, ap, Bool, false, inl, inr}
-use Rattle.std.proofs.Common.{true}
+use Rattle.std.proofs.Common.{◌≡◌, ap, Bool, false, inl, inr, true}
 use Rattle.tok_lexical.specs.Pieces.{begins_with}
 use Rattle.tok_lexical.specs.Words.{IsSuffix}
 use Rattle.tok_values.specs.CStrings.{c_unit}

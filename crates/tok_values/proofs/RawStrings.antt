@@ -1,7 +1,6 @@
 -- The values of raw strings.
 use Rattle.std.proofs.Common.{◌≡◌, ◌∙◌, ◌++◌, ◌∷◌, [], ap, append_assoc, eqb-true, false, List}
-use Rattle.std.proofs.Common.{None}
-use Rattle.std.proofs.Common.{refl, Some, sym, true, ℕ}
+use Rattle.std.proofs.Common.{None, refl, Some, sym, true, ℕ}
 use Rattle.std.specs.Borrow.{Bor}
 use Rattle.std.specs.Prelude.{◌==◌, IfSome, MatchOption, Option}
 use Rattle.std.specs.List.{list_all}
@@ -24,6 +23,7 @@ ReadsRaw text answer =
     MatchOption answer ((value : List ℕ) → IsRawStringValue text value → ⊥)
     (λ value. IsRawStringValue text value.now)
 
+-- what functions that look for the values of raw byte strings return
 abbrev pub ReadsRawBytes : List ℕ → Option (Bor (List ℕ)) → Type 0
 ReadsRawBytes text answer =
     MatchOption answer ((value : List ℕ) → IsRawBytesValue text value → ⊥)

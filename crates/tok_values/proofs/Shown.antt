@@ -1,9 +1,7 @@
 -- The literal of a doc comment's text is read as one string literal, and its value is the text.
-use Rattle.std.proofs.Common.{◌≡◌, ◌∙◌, ℕ, ◌+◌, ◌*◌, ◌<◌, ◌≤◌, List, [], ◌∷◌, ◌++◌}
-use Rattle.std.proofs.Common.{Some, Bool, true, false, refl, ap, arith, append_assoc}
-use Rattle.std.proofs.Common.{length, count_by}
-use Rattle.std.specs.Prelude.{◌==◌, ◌/◌, ◌%◌, encode_utf8_all, fold, if◌then◌else◌, map}
-use Rattle.std.specs.Prelude.{nat_lt}
+use Rattle.std.proofs.Common.{◌≡◌, ◌∙◌, ℕ, ◌+◌, ◌*◌, ◌<◌, ◌≤◌, List, [], ◌∷◌, ◌++◌, Some, Bool}
+use Rattle.std.proofs.Common.{true, false, refl, ap, arith, append_assoc, length, count_by}
+use Rattle.std.specs.Prelude.{◌==◌, ◌/◌, ◌%◌, encode_utf8_all, fold, if◌then◌else◌, map, nat_lt}
 use Rattle.std.specs.Char.{digit_char, digit_value, is_digit}
 use Rattle.std.specs.Char.Escape.{escape_unicode}
 use Rattle.std.specs.List.{list_all}
@@ -16,8 +14,7 @@ use Rattle.std.proofs.lemmas.List.{length-map}
 use Rattle.std.proofs.lemmas.List.Sums.{count_by-le-length}
 use Rattle.tok_lexical.specs.Numbers.{is_digit_or_underscore}
 use Rattle.tok_lexical.specs.Pieces.{is_neither}
-use Rattle.tok_lexical.specs.Strings.{IsUnit, code, escape, is_hex}
-use Rattle.tok_lexical.specs.Strings.{is_hex_or_underscore}
+use Rattle.tok_lexical.specs.Strings.{IsUnit, code, escape, is_hex, is_hex_or_underscore}
 use Rattle.tok_lexical.specs.declared.contents.Contents.TheVariants.{Text}
 use Rattle.tok_lexical.specs.declared.rule.Mode.{Mode}
 use Rattle.tok_lexical.specs.declared.rule.Rule.TheVariants.{QuotedString}
@@ -120,6 +117,7 @@ code_of c h =
 
 -- what a code means, and that it is read
 module _ (c : ℕ) (text : List ℕ) (s : scalar c ≡ true) (w : IsCodeOf c text) where
+  -- the digits as characters
   abbrev digits : List ℕ
   digits = map digit_char (w.first ∷ w.more)
 

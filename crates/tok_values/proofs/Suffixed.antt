@@ -2,8 +2,7 @@
 use Rattle.std.proofs.Common.{◌≡◌, ◌∙◌, ◌∷◌, [], ap, Bool, false, List, None, Option, Some}
 use Rattle.std.proofs.Common.{inl, inr, refl, sym, true, ℕ}
 use Rattle.std.specs.Ffi.{HasNoNul}
-use Rattle.std.specs.Prelude.{◌==◌, ◌⊎◌, Err, IfOk, length, MatchBool, MatchOption, Ok}
-use Rattle.std.specs.Prelude.{Result}
+use Rattle.std.specs.Prelude.{◌==◌, ◌⊎◌, Err, IfOk, length, MatchBool, MatchOption, Ok, Result}
 use Rattle.std.specs.Str.{chars, IsUtf8}
 use Rattle.std.proofs.lemmas.Bool.{false≢true}
 use Rattle.std.proofs.lemmas.Str.{chars-nil}

@@ -4,8 +4,7 @@ use Rattle.std.proofs.Common.{append_assoc}
 use Rattle.std.specs.Prelude.{encode_utf8, encode_utf8_all}
 use Rattle.std.proofs.lemmas.List.{append-nil}
 use Rattle.std.proofs.lemmas.Str.{encodes-append}
-use Rattle.tok_values.specs.Strings.{Means, MeansBy, nothing, more}
-use Rattle.tok_values.specs.Strings.{unit}
+use Rattle.tok_values.specs.Strings.{Means, MeansBy, nothing, more, unit}
 use Rattle.std.proofs.lemmas.Option.{some_pair_parts}
 
 module _ (unit_of : List ℕ → Option (List ℕ × List ℕ)) where

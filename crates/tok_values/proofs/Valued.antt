@@ -9,9 +9,8 @@ use Rattle.std.proofs.lemmas.Bool.{or_parts}
 use Rattle.tok_lexical.specs.Contents.{has_bare_return, has_misfit, is_wrong}
 use Rattle.tok_lexical.specs.Pieces.{After, Skips, begins_with}
 use Rattle.tok_lexical.specs.Raw.{IsRaw, IsRawString}
-use Rattle.tok_lexical.specs.Strings.{AreUnits, EscapeOf, IsEscape, IsString}
-use Rattle.tok_lexical.specs.Strings.{code, escape, hex, line_end, no_unit, plain, simple}
-use Rattle.tok_lexical.specs.Strings.{unit as one_more}
+use Rattle.tok_lexical.specs.Strings.{AreUnits, EscapeOf, IsEscape, IsString, code, escape, hex}
+use Rattle.tok_lexical.specs.Strings.{line_end, no_unit, plain, simple, unit as one_more}
 use Rattle.tok_lexical.specs.Words.{IsSuffix}
 use Rattle.tok_lexical.specs.declared.contents.Contents.{Contents}
 use Rattle.tok_lexical.specs.declared.contents.Contents.TheVariants.{Text, Bytes}
@@ -61,9 +60,11 @@ module _ (unit_of : List ℕ → Option (List ℕ × List ℕ)) (Fact : (text me
 module _ (kind : Contents) (unit_of : List ℕ → Option (List ℕ × List ℕ)) (is_fit : ℕ → Bool)
     (Fact : (text meaning : List ℕ) → Type 0) (reads : Reads unit_of Fact kind is_fit)
     (suffix : List ℕ) where
+  -- the closing quote and the suffix
   abbrev end : List ℕ
   end = 34 ∷ suffix
 
+  -- a text whose units mean something, of which the fact holds
   abbrev HasMeaning : List ℕ → Type 0
   HasMeaning text = (meaning : List ℕ) × MeansBy unit_of text end meaning × Fact text meaning
 
@@ -202,6 +203,7 @@ module _ (kind : Contents) (unit_of : List ℕ → Option (List ℕ × List ℕ)
 abbrev NoFact : (text meaning : List ℕ) → Type 0
 NoFact text meaning = Unit {0}
 
+-- a character that a string of this kind may have: in bytes, ASCII
 abbrev is_narrow : (wide : Bool) → ℕ → Bool
 is_narrow wide c = not (wide && nat_le 128 c)
 

@@ -1,18 +1,14 @@
 -- The functions of values find what the grammar has.
-use Rattle.std.proofs.Common.{◌≡◌, ◌≤◌, Ok, Err, ℕ, zero, suc, List, []}
-use Rattle.std.proofs.Common.{◌∷◌, Option, Some, None}
+use Rattle.std.proofs.Common.{◌≡◌, ◌≤◌, Ok, Err, ℕ, zero, suc, List, [], ◌∷◌, Option, Some, None}
 use Rattle.std.proofs.Common.{Bool, true, false, refl, sym, ap, arith, eqb-true, inl, inr}
-use Rattle.std.specs.Prelude.{◌==◌, length, option_map, encode_utf8_all}
-use Rattle.std.specs.Prelude.{IfOk, MatchOption, Result}
+use Rattle.std.specs.Prelude.{◌==◌, length, option_map, encode_utf8_all, IfOk, MatchOption, Result}
 use Rattle.std.proofs.lemmas.Bool.{and_from, and_parts, cases_Bool, cond_both, false_from_ne_true, false≢true}
 use Rattle.std.proofs.lemmas.Option.{cond_some}
-use Rattle.tok_lexical.specs.Numbers.{IsNumberSuffix, is_digit_or_underscore}
-use Rattle.tok_lexical.specs.Numbers.{starts_digit}
+use Rattle.tok_lexical.specs.Numbers.{IsNumberSuffix, is_digit_or_underscore, starts_digit}
 use Rattle.tok_lexical.specs.Pieces.{Skips}
 use Rattle.tok_values.specs.Integers.{IsDigits, ReadsInteger, base_of}
 use Rattle.tok_values.specs.Numbers.{number}
-use Rattle.tok_values.specs.Strings.{InQuotes, IsNothing, IsStringValue, Means}
-use Rattle.tok_values.specs.Strings.{more, nothing, unit}
+use Rattle.tok_values.specs.Strings.{InQuotes, IsNothing, IsStringValue, Means, more, nothing, unit}
 use Rattle.tok_values.specs.Values.{HasValue, IntegersHaveOneValue, StringsHaveOneValue}
 use Rattle.tok_values.specs.Values.{and_rest_of, characters_in_quotes, integer_value}
 use Rattle.tok_values.specs.Values.{is_number_suffix}
@@ -51,6 +47,7 @@ mapped : {A B : Type 0} (f : A → B) (found : Option A) (value : B) →
 mapped f None value e = absurd (cc)
 mapped f (Some v) value e = (v, refl, cc)
 
+-- what so many units find is what the grammar has
 abbrev Found : ℕ → Type 0
 Found n = (text characters : List ℕ) → up_to_quote n text ≡ Some characters
     → Means false text (34 ∷ []) characters
@@ -72,6 +69,7 @@ finds_within : (n : ℕ) → Found n
 finds_within zero text characters e = absurd (cc)
 finds_within (suc n) text characters e = found_more n (finds_within n) text characters e
 
+-- a string literal without a suffix, and its characters
 abbrev Quoted : (text characters : List ℕ) → Type 0
 Quoted = InQuotes IsNothing (unit false)
 
@@ -156,11 +154,13 @@ none_of (Some v) none = absurd (none v refl)
 
 -- what the functions of the crate return
 module _ {S : Type 0} (bytes : S → List ℕ) (text : List ℕ) where
+  -- the answer is a value by the grammar
   abbrev Reads : Option S → Type 0
   Reads answer =
       MatchOption answer ((value : List ℕ) → IsStringValue text value → ⊥)
       (λ value. IsStringValue text (bytes value))
 
+  -- the answer is the value that the function finds
   abbrev HasFound : Option S → Type 0
   HasFound answer = option_map bytes answer ≡ string_value text
 

@@ -9,8 +9,7 @@ use lib.Utf8.{scalars}
 use Rattle.std.proofs.lemmas.Bool.{and_from, and_parts}
 use Rattle.std.proofs.lemmas.List.{append-nil}
 use Rattle.std.proofs.lemmas.List.Folds.{list_any-append}
-use Rattle.std.proofs.lemmas.Str.{chars-encodes, encodes-append, encodes-chars}
-use Rattle.std.proofs.lemmas.Str.{scalars-chars}
+use Rattle.std.proofs.lemmas.Str.{chars-encodes, encodes-append, encodes-chars, scalars-chars}
 use Rattle.tok_lexical.specs.Contents.{has_return, is_wrong}
 use Rattle.tok_lexical.specs.Errors.{error_kind}
 use Rattle.tok_lexical.specs.Fits.{here}
