@@ -1,6 +1,6 @@
 -- The spans at a count, and what lies before it.
 use Rattle.std.proofs.Common.{◌≡◌, inl, inr, ℕ, ◌+◌, ◌<◌, List, [], ◌∷◌, length, refl, ap, sym}
-use Rattle.std.proofs.Common.{◌∙◌, arith, length-append}
+use Rattle.std.proofs.Common.{arith, length-append}
 use Rattle.tok_leaves.specs.Leaves.{Leaf, leaf_span}
 use Rattle.tok_core.specs.Forest.{leaf, group, Forest, no_trees, tree}
 use Rattle.tok_leaves.specs.declared.span.Span.{Span}
@@ -50,13 +50,9 @@ not_last : (E : List _) (w n : ℕ) (l : Frame) (us : List Frame) → length E �
     At E l us n → 0 < weight (frame_ahead l) + length us
 not_last E w n (frame o p f) us he hn (h, hw, hl) =
     elim (last_or o p f us h) [
-      | inl k ↦ absurd
-          (omega (
-            arith,
-            ap length hw,
-            length-append (before (frame o p f) us)
-                (after (frame o p f) us),
-          ))
+      | inl k ↦
+          let l = length-append (before (frame o p f) us) (after (frame o p f) us) in
+          absurd (omega (arith, ap length hw, l))
       | inr k ↦ k
     ]
 
@@ -65,9 +61,8 @@ pub previous_at : (F : Forest) (n : ℕ) → n < weight F → frame_previous (fr
 previous_at F n h =
     let x = frames_at F n in
     let a = at_all F n (omega arith) in
-    ap (λ z. frame_previous z.0) (frames_next F n)
-    ∙ previous_moves x.0 x.1 a.0
-    (not_last (entries_of F) (weight F) n x.0 x.1 (length-entries_of F) h a)
+    rw (frames_next F n) (previous_moves x.0 x.1 a.0
+    (not_last (entries_of F) (weight F) n x.0 x.1 (length-entries_of F) h a))
 
 pub previous_start : (F : Forest) → frame_previous (frames_at F 0).0 ≡ frame_span (frames_at F 0).0
 unfolding frames_at
@@ -82,7 +77,7 @@ end_current (frame o p (tree (group d c t) f)) k e = cc
 pub leaf_current : (l : Frame) (i : Leaf) → entry_here l ≡ leaf_entry i → leaf_span i ≡ frame_span l
 leaf_current (frame o p no_trees) i e = absurd (not_leaf _ i refl (sym e))
 leaf_current (frame o p (tree (group d c t) f)) i e = absurd (not_leaf _ i refl (sym e))
-leaf_current (frame o p (tree (leaf j) f)) i e = ap leaf_span (sym (same_leaf j i e))
+leaf_current (frame o p (tree (leaf j) f)) i e = rw (same_leaf j i e)
 
 pub group_current : (l : Frame) (g : Sort) (k : ℕ) → entry_here l ≡ Group g k →
     g.span ≡ frame_span l
@@ -90,4 +85,4 @@ group_current (frame o p no_trees) g k e = cc
 group_current (frame o p (tree (leaf j) f)) g k e = absurd (not_leaf (Group g k) j refl e)
 group_current (frame o p (tree (group d c t) f)) g k e =
     let G : Sort = record { delimiter = d; span = t } in
-    let h : G ≡ g = cc in sym (ap (λ x. x.span) h)
+    let h : G ≡ g = cc in rw (← h)

@@ -1,9 +1,9 @@
 -- The trees between two places, move by move.
 use Rattle.std.proofs.Common.{◌≡◌, ◌∙◌, sym, ap, ap₂, refl, arith, ℕ, ◌+◌, ◌-◌, ◌≤◌, ◌<◌}
-use Rattle.std.proofs.Common.{Bool, true, false, List, [], ◌∷◌, Option, Some, None, le-leb}
-use Rattle.std.proofs.Common.{leb-true, leb-false, eq-eqb, eqb-true}
-use Rattle.std.proofs.lemmas.Bool.{and_parts, cond-true, cond-false, lt-leb}
-use Rattle.std.specs.Prelude.{◌==◌, ◌&&◌, nat_le, IfOk, Result, Ok, Err}
+use Rattle.std.proofs.Common.{true, List, [], ◌∷◌, Option, Some, None, le-leb}
+use Rattle.std.proofs.Common.{eqb-true, inl, inr}
+use Rattle.std.proofs.lemmas.Bool.{and_parts, cases_lt, lt-leb}
+use Rattle.std.specs.Prelude.{◌==◌, ◌&&◌, IfOk, Result, Ok, Err}
 use Rattle.tok_leaves.specs.declared.span.Span.{Span}
 use Rattle.tok_lexical.specs.declared.delimiter.Delimiter.{Delimiter}
 use Rattle.tok_lexical.specs.declared.delimiter.Delimiter.TheVariants as delimiter
@@ -26,24 +26,16 @@ use Rattle.tok_buffer.specs.declared.spot.Spot.{Spot}
 use Rattle.tok_buffer.proofs.InScope.{before_scope}
 use Rattle.tok_buffer.proofs.View.Erased.{erased-descend, erased-leave_finished}
 use Rattle.tok_buffer.proofs.View.Keeps.{IsKept, kept-descend, kept-leave_finished}
-use Rattle.tok_buffer.proofs.View.Moves.{IsMoved, moved-pass}
-
-some_weight : (t : Tree) → 0 < tree_weight t
-some_weight (leaf l) = omega arith
-some_weight (group d inside span) = omega arith
+use Rattle.tok_buffer.proofs.View.Moves.{IsMoved, moved-pass, read_parts, some_weight}
 
 -- a tree that ends in time, and one that does not
 whole_first : (n : ℕ) (t : Tree) (f : Forest) → tree_weight t ≤ n
     → first_trees n (tree t f) ≡ tree t (first_trees (n - tree_weight t) f)
-whole_first n t f h =
-    cond-true (nat_le (tree_weight t) n) (tree t (first_trees (n - tree_weight t) f))
-    (first_inside n t) (le-leb (tree_weight t) n h)
+whole_first n t f h = simp (le-leb (tree_weight t) n h)
 
 part_first : (n : ℕ) (t : Tree) (f : Forest) → n < tree_weight t
     → first_trees n (tree t f) ≡ first_inside n t
-part_first n t f h =
-    cond-false (nat_le (tree_weight t) n) (tree t (first_trees (n - tree_weight t) f))
-    (first_inside n t) (lt-leb (tree_weight t) n h)
+part_first n t f h = simp (lt-leb (tree_weight t) n h)
 
 mutual
   none_first : (f : Forest) → first_trees 0 f ≡ no_trees
@@ -57,17 +49,16 @@ mutual
 all_first : (n : ℕ) (f : Forest) → weight f ≤ n → first_trees n f ≡ f
 all_first n no_trees h = refl
 all_first n (tree t f) h =
-    whole_first n t f (omega (arith, h))
-    ∙ ap (tree t) (all_first (n - tree_weight t) f (omega (arith, h)))
+    rw (whole_first n t f (omega (arith, h)), all_first (n - tree_weight t) f (omega (arith, h)))
 
 none_in : (ls : List Frame) → first_in 0 ls ≡ no_trees
 none_in [] = refl
 none_in (frame o p a ∷ ls) =
     let q : 0 - (weight a + 1) ≡ 0 = omega arith in
-    ap₂ concat (none_first a) (ap (λ m. first_in m ls) q ∙ none_in ls)
+    rw (q, none_first a, none_in ls)
 
 spent_in : (n : ℕ) (ls : List Frame) → n ≡ 0 → first_in n ls ≡ no_trees
-spent_in n ls e = ap (λ m. first_in m ls) e ∙ none_in ls
+spent_in n ls e = rw e (none_in ls)
 
 -- at the end there are none
 pub to_none : (e k s n : ℕ) (l : Frame) (us : List Frame) → e ≤ n
@@ -83,9 +74,7 @@ to_tree e k s n o p t f us h =
     let q : e - n - tree_weight t ≡ e - (n + tree_weight t) = omega arith in
     let r : e - n - (tree_weight t + weight f + 1) ≡ e - (n + tree_weight t) - (weight f + 1) =
     omega arith in
-    ap₂ concat
-    (whole_first (e - n) t f (omega (arith, h)) ∙ ap (λ m. tree t (first_trees m f)) q)
-    (ap (λ m. first_in m us) r)
+    rw (whole_first (e - n) t f (omega (arith, h)), q, r)
 
 -- a group that ends later is entered
 pub to_open : (e k s n : ℕ) (o : Enclosing) (p : Forest) (d : Delimiter) (c : Forest) (t : Span)
@@ -94,10 +83,9 @@ pub to_open : (e k s n : ℕ) (o : Enclosing) (p : Forest) (d : Delimiter) (c : 
     ≡ trees_to e (at k s (n + 1) (frame (in_group d t) no_trees c) (frame o p f ∷ us))
 to_open e k s n o p d c t f us h =
     let q : e - n - 1 ≡ e - (n + 1) = omega arith in
-    ap₂ concat
-    (part_first (e - n) (group d c t) f (omega (arith, h)) ∙ ap (λ m. first_trees m c) q)
-    (spent_in (e - n - (2 + weight c + weight f + 1)) us (omega (arith, h))
-    ∙ sym (spent_in (e - (n + 1) - (weight c + 1)) (frame o p f ∷ us) (omega (arith, h))))
+    let inner = spent_in (e - n - (2 + weight c + weight f + 1)) us (omega (arith, h)) in
+    let outer = spent_in (e - (n + 1) - (weight c + 1)) (frame o p f ∷ us) (omega (arith, h)) in
+    rw (part_first (e - n) (group d c t) f (omega (arith, h)), q, inner, outer)
 
 first_left : (m : ℕ) (o : Enclosing) (p : Forest) (u : Frame) (us : List Frame)
     → first_in m (leave_group o p u ∷ us) ≡ first_in m (u ∷ us)
@@ -110,22 +98,16 @@ pub to_close : (e k s n : ℕ) (o : Enclosing) (p : Forest) (u : Frame) (us : Li
     ≡ trees_to e (at k s (n + 1) (leave_group o p u) us)
 to_close e k s n o p u us =
     let q : e - n - (0 + 1) ≡ e - (n + 1) = omega arith in
-    ap (λ m. first_in m (u ∷ us)) q ∙ sym (first_left (e - (n + 1)) o p u us)
+    rw (q, first_left (e - (n + 1)) o p u us)
 
 -- an invisible group is entered: its trees are visible, whether it ends in time or not
 opened : (e k s n : ℕ) (o : Enclosing) (p c : Forest) (t : Span) (f : Forest) (us : List Frame)
     → erase (trees_to e (at k s n (frame o p (tree (group delimiter.None c t) f)) us))
     ≡ erase (trees_to e (at k s (n + 1) (frame (in_group delimiter.None t) no_trees c)
     (frame o p f ∷ us)))
-opened e k s n o p c t f us = go (nat_le (n + (2 + weight c)) e) refl where
-  go : (b : Bool) → nat_le (n + (2 + weight c)) e ≡ b
-      → erase (trees_to e (at k s n (frame o p (tree (group delimiter.None c t) f)) us))
-      ≡ erase (trees_to e (at k s (n + 1) (frame (in_group delimiter.None t) no_trees c)
-      (frame o p f ∷ us)))
-  go false h =
-      ap erase (to_open e k s n o p delimiter.None c t f us (leb-false (n + (2 + weight c)) e h))
-  go true h =
-      let in_time : n + (2 + weight c) ≤ e = leb-true (n + (2 + weight c)) e h in
+opened e k s n o p c t f us = elim (cases_lt e (n + (2 + weight c))) [
+  | inl late ↦ ap erase (to_open e k s n o p delimiter.None c t f us late)
+  | inr in_time ↦
       let after = trees_to e
       (at k s (n + (2 + weight c)) (frame o (tree (group delimiter.None c t) p) f) us) in
       let q : e - (n + 1) - (weight c + 1) ≡ e - (n + (2 + weight c)) = omega arith in
@@ -133,6 +115,7 @@ opened e k s n o p c t f us = go (nat_le (n + (2 + weight c)) e) refl where
       ∙ sym (erase_concat c after)
       ∙ sym (ap erase (ap₂ concat (all_first (e - (n + 1)) c (omega (arith, in_time)))
       (ap (λ m. first_in m (frame o p f ∷ us)) q)))
+]
 
 -- so neither settling nor a descent changes the visible trees
 module _ (e : ℕ) (x : Forest) where
@@ -218,16 +201,14 @@ goes_past k s n o p t f us =
     record {
       later = omega (arith, far);
       trees = λ e h.
-          ap erase (to_tree e k s n o p t f us (omega (arith, h, far)))
-          ∙ erase_tree t (trees_to e (at k s m l us))
-          ∙ ap (concat (erase (tree t no_trees))) (sym (trees-settled e k s m l us));
+          rw (to_tree e k s n o p t f us (omega (arith, h, far)))
+          (rw trees-settled (erase_tree t (trees_to e (at k s m l us))));
       ahead =
-          ap (λ g. concat g (erased_in us)) (erase_tree t f)
-          ∙ joined_assoc (erase (tree t no_trees)) (erase f) (erased_in us)
-          ∙ ap (concat (erase (tree t no_trees))) (sym (erased-leave_finished k s m l us));
+          rw (erased-leave_finished k s m l us, ← joined_assoc) (ap (λ g. concat g (erased_in us))
+          (erase_tree t f));
     }
 
-to_here : (p : Place) → trees_to (count_of p) p ≡ no_trees
+pub to_here : (p : Place) → trees_to (count_of p) p ≡ no_trees
 to_here empty_place = refl
 to_here (at k s n l us) = to_none n k s n l us (omega arith)
 
@@ -239,26 +220,18 @@ record Splits (p q : Place) : Type 0 where
 
 splits_here : (p : Place) → Splits p p
 splits_here p =
-    let none : erase (trees_to (count_of p) p) ≡ no_trees = ap erase (to_here p) in
-    record {
-      trees = λ e h. sym (ap (λ g. concat g (erase (trees_to e p))) none);
-      ahead = sym (ap (λ g. concat g (erased_ahead p)) none);
-    }
+    record { trees = λ e h. rw (to_here p); ahead = rw (to_here p) }
 
 module _ (p q r : Place) (u : Forest) (so : Splits p q) (move : Goes q u r) where
   taken : erase (trees_to (count_of r) p) ≡ concat (erase (trees_to (count_of q) p)) u
   taken =
-      so.trees (count_of r) move.later
-      ∙ ap (concat (erase (trees_to (count_of q) p)))
-      (move.trees (count_of r) (omega arith)
-      ∙ ap (λ g. concat u (erase g)) (to_here r) ∙ concat-none u)
+      rw (so.trees (count_of r) move.later, move.trees (count_of r) (omega arith))
+      (rw (to_here r, concat-none u))
 
   along : (g h : Forest) → h ≡ concat u g
       → concat (erase (trees_to (count_of q) p)) h ≡ concat (erase (trees_to (count_of r) p)) g
   along g h e =
-      ap (concat (erase (trees_to (count_of q) p))) e
-      ∙ sym (joined_assoc (erase (trees_to (count_of q) p)) u g)
-      ∙ ap (λ x. concat x g) (sym taken)
+      rw (e, taken, joined_assoc)
 
   then_splits : Splits p r
   then_splits =
@@ -285,15 +258,13 @@ follows_splits p q (after_tree r h) = past_splits p r (follows_splits p r h)
 
 -- a place that follows is a later one of the same scope
 same_and : (k i s t : ℕ) → k ≡ i → s ≡ t → ((k == i) && (s == t)) ≡ true
-same_and k i s t e h =
-    ap (λ b. b && (s == t)) (eq-eqb k i e) ∙ eq-eqb s t h
+same_and k i s t e h = grind arith
 
 later_between : (k s n : ℕ) (l : Frame) (us : List Frame) (q : Place) → Later k s n q
     → between (at k s n l us) q ≡ trees_to (count_of q) (at k s n l us)
 later_between k s n l us empty_place h = absurd h
 later_between k s n l us (at i t d m vs) h =
-    cond-true ((k == i) && (s == t)) (trees_to d (at k s n l us)) no_trees
-    (same_and k i s t h.0 h.1)
+    simp (same_and k i s t h.0 h.1)
 
 pub between_is : (p q : Place) → Follows p q → between p q ≡ trees_to (count_of q) p
 between_is empty_place empty_place h = refl
@@ -309,37 +280,21 @@ pub ends_in_scope : (from to : Spot) → same_scope (spot_place from) (spot_plac
     → to.position ≤ from.scope
 ends_in_scope from to e =
     let p = and_parts (from.buffer.now.number == to.buffer.now.number) (from.scope == to.scope) e in
-    omega (
-      arith,
-      eqb-true from.scope to.scope p.1,
-      before_scope to.buffer.now.forest to.position to.scope to.within,
-    )
+    let last = before_scope to.buffer.now.forest to.position to.scope to.within in
+    omega (arith, eqb-true from.scope to.scope p.1, last)
 
 -- the visible trees between, and then those ahead of the second place
 pub visible_between : {E : Type 0} (p q : Place) (r : Result Forest E)
     → IfOk r (λ f. f ≡ between p q)
     → IfOk r (λ f. Follows p q → concat (erase f) (erased_ahead q) ≡ erased_ahead p)
 visible_between p q (Ok f) e = λ h.
-    ap (λ g. concat (erase g) (erased_ahead q)) (e ∙ between_is p q h)
-    ∙ sym (follows_splits p q h).ahead
+    rw (e, between_is p q h) (sym (follows_splits p q h).ahead)
 visible_between p q (Err x) e = tt
 
 pub between_same : (p : Place) → between p p ≡ no_trees
-between_same p = between_is p p from_here ∙ to_here p
+between_same p = rw (between_is p p from_here) (to_here p)
 
 -- one more visible tree
-abbrev head_or : Tree → List Tree → Tree
-head_or t [] = t
-head_or t (x ∷ xs) = x
-
-read_parts : (t u : Tree) (q r : Place)
-    → ◌≡◌ {A = Option (List Tree × Place)} (Some (t ∷ [], q)) (Some (u ∷ [], r))
-    → (t ≡ u) × (q ≡ r)
-read_parts t u q r e = (
-  ap (λ (o : Option (List Tree × Place)). elim o [ Some x ↦ head_or t x.0 | None ↦ t ]) e,
-  ap (λ (o : Option (List Tree × Place)). elim o [ Some x ↦ x.1 | None ↦ q ]) e,
-)
-
 front_taken : (p d r : Place) (t : Tree) → Splits p d → read_tree d ≡ Some (t ∷ [], r)
     → erase (trees_to (count_of r) p)
     ≡ concat (erase (trees_to (count_of d) p)) (erase (tree t no_trees))
@@ -348,9 +303,8 @@ front_taken p (at k s n (frame o b no_trees) us) r t h e = absurd (cc)
 front_taken p (at k s n (frame o b (tree x f)) us) r t h e =
     let d = at k s n (frame o b (tree x f)) us in
     let same = read_parts x t (pass d) r e in
-    sym (ap (λ q. erase (trees_to (count_of q) p)) same.1)
-    ∙ taken p d (pass d) (erase (tree x no_trees)) h (goes_past k s n o b x f us)
-    ∙ ap (λ y. concat (erase (trees_to (count_of d) p)) (erase (tree y no_trees))) same.0
+    rw (← same.1, ← same.0)
+    (taken p d (pass d) (erase (tree x no_trees)) h (goes_past k s n o b x f us))
 
 pub between_next : (p q r : Place) (t : Tree) → Follows p q → Follows p r
     → read_visible q ≡ Some (t ∷ [], r)

@@ -1,5 +1,5 @@
 -- The trees up to a count, entry by entry.
-use Rattle.std.proofs.Common.{◌≡◌, ◌∙◌, sym, ap, arith, ℕ, ◌+◌, ◌≤◌, ◌<◌, List, Some}
+use Rattle.std.proofs.Common.{◌≡◌, ap, arith, ℕ, ◌+◌, ◌≤◌, ◌<◌, List, Some}
 use Rattle.tok_lexical.specs.declared.delimiter.Delimiter.{Delimiter}
 use Rattle.tok_leaves.specs.declared.span.Span.{Span}
 use Rattle.tok_core.specs.Forest.{Tree, leaf, group, Forest, no_trees, tree}
@@ -20,8 +20,7 @@ front_taken : (e k s n : ℕ) (l : Frame) (us : List Frame) (t : Tree) →
 front_taken e k s n (frame o p no_trees) us t q h = cc
 front_taken e k s n (frame o p (tree u f)) us t q h =
     let w : u ≡ t = cc in
-    to_tree e k s n o p u f us (omega (arith, ap tree_weight w, h))
-    ∙ ap (λ x. tree x (trees_to e (at k s (n + tree_weight u) (frame o (tree u p) f) us))) w
+    rw (← w) (to_tree e k s n o p u f us (omega (arith, ap tree_weight w, h)))
 
 open_taken : (e k s n : ℕ) (l : Frame) (us : List Frame) (d : Delimiter) (c : Forest) (t : Span) →
     front (at k s n l us) ≡ Some (group d c t) → e < n + (2 + weight c) →
@@ -47,16 +46,16 @@ module _ (e : ℕ) (a : Ahead) where
       IsOn a many (beyond (ahead_place a)) b → a.position + tree_weight t ≤ e →
       trees_to e (ahead_place a) ≡ tree t (trees_to e (ahead_place b))
   taken_front b many t q on h =
-      front_taken e a.buffer.now.number a.scope a.position inner outer t q h
-      ∙ ap (λ z. tree t (trees_to e z)) (sym on.place)
+      cc (front_taken e a.buffer.now.number a.scope a.position inner outer t q h, on.place)
 
   -- a group that ends later is entered
   pub taken_open : (g : NextGroup) → FindsGroup a g → e < g.after.position →
       trees_to e (ahead_place a) ≡ trees_to e (ahead_place g.entered)
   taken_open g f h =
-      open_taken e a.buffer.now.number a.scope a.position inner outer g.opening.now.delimiter
-      f.contents g.opening.now.span f.found (omega (arith, f.after.position, h))
-      ∙ ap (trees_to e) (sym f.entered.place)
+      let entered = open_taken e a.buffer.now.number a.scope a.position inner outer
+      g.opening.now.delimiter f.contents g.opening.now.span f.found
+      (omega (arith, f.after.position, h)) in
+      cc (f.entered.place)
 
   -- a group that ends in time is a tree
   pub taken_group : (g : NextGroup) → FindsGroup a g → g.after.position ≤ e →
@@ -64,6 +63,5 @@ module _ (e : ℕ) (a : Ahead) where
       ≡ tree (group g.opening.now.delimiter (rest (ahead_place g.inside)) g.opening.now.span)
       (trees_to e (ahead_place g.after))
   taken_group g f h =
-      taken_front g.after _ _ f.found f.after (omega (arith, f.after.position, h))
-      ∙ ap (λ z. tree (group g.opening.now.delimiter z g.opening.now.span)
-      (trees_to e (ahead_place g.after))) (sym (rest_inside a g f))
+      rw (rest_inside a g f)
+      (taken_front g.after _ _ f.found f.after (omega (arith, f.after.position, h)))

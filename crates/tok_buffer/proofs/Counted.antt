@@ -17,24 +17,14 @@ weight-erase : (f : Forest) → weight (erase f) ≤ weight f
 weight-erase no_trees = omega arith
 weight-erase (tree (leaf l) f) = omega (arith, weight-erase f)
 weight-erase (tree (group delimiter.None inside span) f) =
-    omega (
-      arith,
-      weight-erase inside,
-      weight-erase f,
-      weight-concat (erase inside) (erase f),
-    )
+    omega (arith, weight-erase inside, weight-erase f, weight-concat)
 weight-erase (tree (group d inside span) f) = omega (arith, weight-erase inside, weight-erase f)
 
 visible-in : (o : _) (p a : Forest) (ls : List Frame) → weight (erased_in (frame o p a ∷ ls))
     ≤ weight a + remaining_around ls
 visible-in o p a [] = omega (arith, weight-concat (erase a) no_trees, weight-erase a)
 visible-in o p a (frame q r b ∷ ls) =
-    omega (
-      arith,
-      weight-concat (erase a) (erased_in (frame q r b ∷ ls)),
-      weight-erase a,
-      visible-in q r b ls,
-    )
+    omega (arith, weight-concat, weight-erase a, visible-in q r b ls)
 
 -- what is visible ahead is left
 pub visible-left : (p : Place) → weight (erased_ahead p) ≤ remaining p - 1

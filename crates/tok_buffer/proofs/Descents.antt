@@ -19,9 +19,8 @@ pub descend-leave_finished : (n s c : ℕ) (l : Frame) (ls : List Frame)
     → descend (leave_finished n s c l ls)
     ≡ descend_from n s c l ls
 descend-leave_finished n s c l [] = refl
-descend-leave_finished n s c (frame o p no_trees) (m ∷ ls) = descend-leave_finished n s (c + 1)
-    (leave_group o p m) ls
-    ∙ ap (λ k. descend_from n s (k + 1) (leave_group o p m) ls) (sym (add-zero c))
+descend-leave_finished n s c (frame o p no_trees) (m ∷ ls) =
+    rw add-zero (descend-leave_finished n s (c + 1) (leave_group o p m) ls)
 descend-leave_finished n s c (frame o p (tree t f)) (m ∷ ls) = refl
 
 or-unwrap : (a b : Option Place) (p : Place) → unwrap_or (option_or a b) p
@@ -45,9 +44,9 @@ after_group : (k s n m : ℕ) (o : Enclosing) (p : Forest) (t : Tree) (f : Fores
     m + weight f ≡ n + weight (tree t f) → after k s m o (tree t p) f ls
     ≡ after k s n o p (tree t f) ls
 after_group k s n m o p t f [] e =
-    ap (λ c. at k s c (frame o (reverse_onto f (tree t p)) no_trees) []) e
+    rw e
 after_group k s n m o p t f (l ∷ ls) e =
-    ap (λ c. descend_from k s (c + 1) (leave_group o (reverse_onto f (tree t p)) l) ls) e
+    rw e
 
 into_step : (k s n : ℕ) (o : Enclosing) (p c : Forest) (span : Span) (f : Forest) (ls : List Frame)
     →
@@ -85,14 +84,12 @@ descend_step k s n (frame o p (tree (group delimiter.Bracket c span) f)) us h =
 visible_done : (k s n : ℕ) (o : Enclosing) (p f : Forest) (us : List Frame) →
     into_front f k s n o p us ≡ Some (at k s n (frame o p f) us) →
     descend (at k s n (frame o p f) us) ≡ at k s n (frame o p f) us
-visible_done k s n o p f us e = descend_from_is k s n o p f us
-    ∙ ap (λ z. unwrap_or z (after k s n o p f us)) e
+visible_done k s n o p f us e = rw (descend_from_is k s n o p f us, e)
 
 -- where no invisible group is in front a settled place is the descent's end
 pub descend_done : (k s n : ℕ) (l : Frame) (us : List Frame) → is_settled l us ≡ true →
     invisible_front (frame_ahead l) ≡ false → descend (at k s n l us) ≡ at k s n l us
-descend_done k s n (frame o p no_trees) [] q h = ap (λ m. at k s m (frame o p no_trees) [])
-    (add-zero n)
+descend_done k s n (frame o p no_trees) [] q h = rw add-zero
 descend_done k s n (frame o p no_trees) (u ∷ us) q h = absurd (false≢true q)
 descend_done k s n (frame o p (tree (leaf i) f)) us q h =
     visible_done k s n o p (tree (leaf i) f) us refl

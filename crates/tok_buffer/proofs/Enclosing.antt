@@ -1,6 +1,6 @@
 -- What encloses a scope, from its end.
 use Rattle.std.proofs.Common.{◌≡◌, ℕ, zero, suc, ◌+◌, ◌-◌, ◌≤◌, ◌≢◌, true, List, [], ◌∷◌}
-use Rattle.std.proofs.Common.{◌++◌, length, get_or, refl, ap, sym, ◌∙◌, subst, arith}
+use Rattle.std.proofs.Common.{◌++◌, length, get_or, refl, arith}
 use Rattle.std.proofs.Common.{append_assoc, length-append}
 use Rattle.std.proofs.lemmas.List.{get_or_at}
 use Rattle.tok_core.specs.Forest.{leaf, group, Forest, no_trees, tree, reverse_onto}
@@ -41,24 +41,21 @@ scope_is_end : (k : ℕ) (F : Forest) (n s : ℕ) → in_scope F n s ≡ true �
 scope_is_end k F n s h zero e =
     let q : n ≡ s = omega arith in
     let x = frames_at F s in
-    let hs : in_scope F s s ≡ true = subst (λ z. in_scope F z s ≡ true) q h in (
-      hs,
-      ap (λ z. scope_delimiter (place_at k F z s)) q
-          ∙ ap (frames_delimiter x.0) (scope_end s s x.0 x.1 hs refl).1 ∙ root_delimiter x.0,
-    )
+    let hs : in_scope F s s ≡ true = rw q at h in
+    (hs, rw (q, (scope_end s s x.0 x.1 hs refl).1) (root_delimiter x.0))
 scope_is_end k F n s h (suc m) e =
     let ne : n ≢ s = λ x. absurd (omega arith) in
     let t = place_step k n s F h ne in
     let x = frames_at F n in
     let us = frames_in_scope (end_of n x.0) s x.1 in
     let r = scope_is_end k F (n + 1) s t.0 m (omega arith) in
-    (r.0, sym (delimiter_moves x.0 us) ∙ sym (ap scope_delimiter t.1) ∙ r.1)
+    (r.0, cc (delimiter_moves x.0 us, t.1, r.1))
 
 pub scope_ends : (F : Forest) (n s : ℕ) → in_scope F n s ≡ true →
     at_end (frame_ahead (frames_at F s).0) ≡ true
 scope_ends F n s h =
     let r = scope_is_end 0 F n s h (s - n) (omega (arith, before_scope F n s h)) in
-    ap at_end (scope_end s s (frames_at F s).0 (frames_at F s).1 r.0 refl).0
+    rw (scope_end s s (frames_at F s).0 (frames_at F s).1 r.0 refl).0 refl
 
 pub scope_enclosing : (k : ℕ) (F : Forest) (n s : ℕ) → in_scope F n s ≡ true →
     scope_delimiter (place_at k F n s) ≡ enclosing_delimiter (frame_enclosing (frames_at F s).0)
@@ -70,8 +67,7 @@ reach_back : (E : List Entry) (n : ℕ) (o : Enclosing) (p : Forest) (us : List 
     entry_enclosing (get_or E (n - back (frame o p no_trees)) d) ≡ o)
 reach_back E n whole p us a = (
   omega arith,
-  λ d e. let q : n - 0 ≡ n = omega arith in
-      ap (λ z. entry_enclosing (get_or E z d)) q ∙ ap entry_enclosing e,
+  λ d e. let q : n - 0 ≡ n = omega arith in rw (q, e),
 )
 reach_back E n (in_group d t) p [] a = absurd a.0
 reach_back E n (in_group d t) p (frame o q g ∷ us) a =
@@ -80,20 +76,13 @@ reach_back E n (in_group d t) p (frame o q g ∷ us) a =
     let X = r.0 ++ layout (reverse_onto q no_trees) in
     let y = after (frame (in_group d t) p no_trees) (frame o q g ∷ us) in
     let len : length X + 1 + weight c ≡ n =
-    omega (
-      arith,
-      a.2,
-      length-append (X ++ group_entry d t c ∷ []) (layout c),
-      length-append X (group_entry d t c ∷ []),
-      length-layout c,
-    ) in (
+    omega (arith, a.2, length-append {A = Entry}, length-layout) in (
       omega arith,
       λ x e. let there : length X ≡ n - (weight c + 1) = omega arith in
-          ap (λ z. entry_enclosing (get_or z (n - (weight c + 1)) x))
-          (a.1 ∙ append_assoc (X ++ group_entry d t c ∷ []) (layout c) y
-          ∙ append_assoc X (group_entry d t c ∷ []) (layout c ++ y))
-          ∙ ap entry_enclosing (get_or_at X (group_entry d t c) (layout c ++ y) x
-          (n - (weight c + 1)) there),
+          let here = get_or_at X (group_entry d t c) (layout c ++ y) x (n - (weight c + 1)) there in
+          let apart = append_assoc (X ++ group_entry d t c ∷ []) (layout c) y in
+          let first = append_assoc X (group_entry d t c ∷ []) (layout c ++ y) in
+          rw (a.1, apart, first, here),
     )
 
 back_from : (E : List Entry) (n : ℕ) (l : Frame) (us : List Frame) → At E l us n → (k : ℕ) →
@@ -104,10 +93,7 @@ back_from E n (frame o p (tree (leaf i) f)) us a k e = absurd (not_leaf (End k) 
 back_from E n (frame o p (tree (group x c t) f)) us a k e = cc
 back_from E n (frame o p no_trees) us a k e =
     let q : back (frame o p no_trees) ≡ k = cc in
-    subst
-    (λ z. (z ≤ n) × ((d : Entry) → get_or E n d ≡ End z → entry_enclosing (get_or E (n - z) d) ≡ o))
-    q
-    (reach_back E n o p us a)
+    rw q at (reach_back E n o p us a)
 
 pub enclosing_entry : (F : Forest) (n k : ℕ) → n ≤ weight F → entry_here (frames_at F n).0 ≡ End k →
     (k ≤ n)
@@ -115,6 +101,5 @@ pub enclosing_entry : (F : Forest) (n k : ℕ) → n ≤ weight F → entry_here
 enclosing_entry F n k h e =
     let r = back_from (entries_of F) n (frames_at F n).0 (frames_at F n).1 (at_all F n h) k e in (
       r.0,
-      ap entry_enclosing (sym (entry_at F (n - k) (End k) (omega arith)))
-          ∙ r.1 (End k) (entry_at F n (End k) h ∙ e),
+      rw (← entry_at F (n - k) (End k) (omega arith)) (r.1 (End k) (rw (entry_at F n (End k) h) e)),
     )

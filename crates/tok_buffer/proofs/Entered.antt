@@ -1,6 +1,6 @@
 -- A descent is entering, again and again.
 use Rattle.std.proofs.Common.{◌≡◌, ℕ, zero, suc, ◌+◌, ◌≤◌, Bool, true, false, List, [], ◌∷◌}
-use Rattle.std.proofs.Common.{refl, sym, subst, arith}
+use Rattle.std.proofs.Common.{refl, arith}
 use Rattle.tok_lexical.specs.declared.delimiter.Delimiter.TheVariants as delimiter
 use Rattle.tok_core.specs.Forest.{leaf, group, no_trees, tree}
 use Rattle.tok_buffer.specs.Descent.{descend, is_before_invisible, inwards, EntersAll, stop}
@@ -29,7 +29,7 @@ abbrev Enters : Place → Place → Type 0
 Enters p q = EntersAll p q × (is_before_invisible q ≡ false)
 
 enters_at_once : (p q : Place) → q ≡ p → is_before_invisible p ≡ false → Enters p q
-enters_at_once p q e h = subst (Enters p) (sym e) (stop p h, h)
+enters_at_once p q e h = rw e (stop p h, h)
 
 enters_down : (fuel : ℕ) (p : Place) → remaining p ≤ fuel → at_rest p ≡ true → Enters p (descend p)
 enters_down fuel empty_place h r = (stop empty_place refl, refl)
@@ -58,7 +58,9 @@ enters_down (suc k) (at n s c (frame o p (tree (group delimiter.None inside span
     let down = enters_down k (inwards here)
     (omega (arith, h, leave_finished_remaining n s (c + 1) l us))
     (leave_finished_rests n s (c + 1) l us) in
-    subst (Enters here) e (enters here (descend (inwards here)) refl down.0, down.1)
+    let way : Enters here (descend (inwards here)) =
+    (enters here (descend (inwards here)) refl down.0, down.1) in
+    rw e at way
 
 descend-settled : (p : Place) → descend (settled p) ≡ descend p
 descend-settled empty_place = refl
@@ -69,5 +71,6 @@ settled_rests empty_place = refl
 settled_rests (at n s c l ls) = leave_finished_rests n s c l ls
 
 pub descents_enter : DescentsEnter
-descents_enter p = subst (Enters (settled p)) (descend-settled p)
+descents_enter p =
+    rw (← descend-settled p)
     (enters_down (remaining (settled p)) (settled p) (omega arith) (settled_rests p))

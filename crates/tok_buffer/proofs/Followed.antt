@@ -1,20 +1,21 @@
 -- Where calls lead, and the visible trees that they take.
-use Rattle.std.proofs.Common.{◌≡◌, ap, subst, Bool, true, false, cond, List}
-use Rattle.std.proofs.Common.{[], ◌∷◌, Option, Some, None}
+use Rattle.std.proofs.Common.{◌≡◌, ap, Bool, List}
+use Rattle.std.proofs.Common.{[], ◌∷◌, Some}
 use Rattle.std.specs.Prelude.{IfSome, option_map}
 use Rattle.tok_lexical.specs.declared.delimiter.Delimiter.{Delimiter}
-use Rattle.tok_lexical.specs.declared.delimiter.Delimiter.TheVariants as delimiter
 use Rattle.tok_core.specs.Forest.{Tree, leaf, group, no_trees, tree}
 use Rattle.tok_buffer.specs.Between.{Follows, from_here, after_descent, after_tree, ReadsFollow}
 use Rattle.tok_buffer.specs.Descent.{descend}
 use Rattle.tok_buffer.specs.EachRead.{Read}
-use Rattle.tok_buffer.specs.Entry.{Entered, enter, enter_any, entered_of, same_delimiter}
+use Rattle.tok_buffer.specs.Entry.{Entered, enter, enter_any}
 use Rattle.tok_buffer.specs.Place.{frame, Place, empty_place, at}
 use Rattle.tok_buffer.specs.Progress.{ReadLeads}
 use Rattle.tok_buffer.specs.Reads.{any_tree, place_after, read_if, read_tree, skip}
 use Rattle.tok_buffer.specs.Trees.{read_visible}
 use Rattle.tok_buffer.proofs.View.Moves.{Leads, LeadsTo, leads, leads-skip, leads-take}
 use Rattle.tok_buffer.proofs.View.Readings.{each_read}
+use Rattle.std.proofs.lemmas.Option.{IfSome_then}
+use Rattle.tok_buffer.proofs.View.Keeps.{of-entered}
 
 follows_along : (p q r : Place) → Follows p q → Follows q r → Follows p r
 follows_along p q r h from_here = h
@@ -32,43 +33,24 @@ follows_on p =
 -- a read that leads there
 module _ (read : Read) (on : (p : Place) → LeadsTo (Follows p) (read p)) where
   read_follows : ReadLeads Follows read
-  read_follows p ts q e = subst (LeadsTo (Follows p)) e (on p)
+  read_follows p ts q e = rw e at (on p)
 
 skip_follows : (p q : Place) → skip p ≡ Some q → Follows p q
 skip_follows p q e =
-    subst (λ r. IfSome r (Follows p)) e
-    (leads-skip (Follows p) (Follows p) (follows_on p) p from_here)
+    rw e at (leads-skip (Follows p) (Follows p) (follows_on p) p from_here)
 
-entered_is : (x e : Entered) → Some x ≡ Some e → x ≡ e
-entered_is x e h = ap (λ y. elim y [ Some z ↦ z | None ↦ x ]) h
-
-any_follows : (p : Place) (e : Entered) → enter_any p ≡ Some e → Follows p e.after
-any_follows empty_place e h = cc
-any_follows (at n s c (frame o p no_trees) ls) e h = cc
-any_follows (at n s c (frame o p (tree (leaf l) f)) ls) e h = cc
-any_follows (at n s c (frame o p (tree (group d inside span) f)) ls) e h =
-    subst (λ x. Follows (at n s c (frame o p (tree (group d inside span) f)) ls) x.after)
-    (entered_is _ e h)
-    (after_tree (at n s c (frame o p (tree (group d inside span) f)) ls) from_here)
-
-of_any : (d : Delimiter) (x : Option Entered) (e : Entered) → entered_of d x ≡ Some e → x ≡ Some e
-of_any d None e h = cc
-of_any d (Some x) e h = go (same_delimiter d x.delimiter) h where
-  go : (b : Bool) → cond {A = Option Entered} b (Some x) None ≡ Some e → Some x ≡ Some e
-  go true k = k
-  go false k = cc
-
-visible_follows : (d : Delimiter) (p : Place) (e : Entered)
-    → entered_of d (enter_any (descend p)) ≡ Some e → Follows p e.after
-visible_follows d p e h =
-    follows_along p (descend p) e.after (after_descent p from_here)
-    (any_follows (descend p) e (of_any d (enter_any (descend p)) e h))
+any_follows : (p : Place) → IfSome (enter_any p) (λ e. Follows p e.after)
+any_follows empty_place = tt
+any_follows (at n s c (frame o p no_trees) ls) = tt
+any_follows (at n s c (frame o p (tree (leaf l) f)) ls) = tt
+any_follows (at n s c (frame o p (tree (group d inside span) f)) ls) =
+    after_tree (at n s c (frame o p (tree (group d inside span) f)) ls) from_here
 
 group_follows : (d : Delimiter) (p : Place) (e : Entered) → enter d p ≡ Some e → Follows p e.after
-group_follows delimiter.None p e h = any_follows p e (of_any delimiter.None (enter_any p) e h)
-group_follows delimiter.Parenthesis p e h = visible_follows delimiter.Parenthesis p e h
-group_follows delimiter.Brace p e h = visible_follows delimiter.Brace p e h
-group_follows delimiter.Bracket p e h = visible_follows delimiter.Bracket p e h
+group_follows d p e h =
+    rw h at (of-entered (λ x. Follows p x.after) d p (any_follows p)
+    (IfSome_then (enter_any (descend p)) (any_follows (descend p))
+    (λ x k. follows_along p (descend p) x.after (after_descent p from_here) k)))
 
 take_follows : (wanted : Tree → Bool) (p : Place) → LeadsTo (Follows p) (read_if wanted p)
 take_follows wanted p = leads-take (Follows p) (Follows p) (follows_on p) wanted p from_here
@@ -83,7 +65,7 @@ reads_follow = record {
     taken = λ wanted. read_follows (read_if wanted) (take_follows wanted);
     skips = skip_follows;
     groups = group_follows;
-    any_groups = any_follows;
+    any_groups = λ p e h. rw h at (any_follows p);
   };
   along = follows_along;
 }
@@ -92,7 +74,7 @@ reads_follow = record {
 pub tree_follows : (p q r : Place) (ts : List Tree) → Follows p q → read_visible q ≡ Some (ts, r)
     → Follows p r
 tree_follows p q r ts h e =
-    subst (LeadsTo (Follows p)) e
+    rw e at
     (leads-take (Follows p) (Follows p) (follows_on p) any_tree (descend q) (after_descent q h))
 
 -- a tree is passed

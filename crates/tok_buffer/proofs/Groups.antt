@@ -1,22 +1,22 @@
 -- A group in front: its content, and the place after.
 use Rattle.std.proofs.Common.{◌≡◌, ℕ, ◌+◌, ◌≤◌, true, eqb, List, [], ◌∷◌, Some, refl, ap, ap₂}
-use Rattle.std.proofs.Common.{sym, ◌∙◌, subst, arith, eq-eqb}
-use Rattle.std.proofs.lemmas.Bool.{or_left, cond-true}
+use Rattle.std.proofs.Common.{sym, ◌∙◌, arith, eq-eqb}
+use Rattle.std.proofs.lemmas.Bool.{or_left}
 use Rattle.tok_leaves.specs.declared.span.Span.{Span}
 use Rattle.tok_lexical.specs.declared.delimiter.Delimiter.{Delimiter}
 use Rattle.tok_core.specs.Forest.{leaf, group, Forest, no_trees, tree}
 use Rattle.tok_core.specs.Weight.{weight}
 use Rattle.tok_buffer.specs.Entry.{enter_any}
 use Rattle.tok_buffer.specs.Place.{in_group, Frame, frame, Place, at, settled}
-use Rattle.tok_buffer.specs.Moves.{frame_ahead, frame_passed, frame_enclosing, move, frames_at}
-use Rattle.tok_buffer.specs.Moves.{frames_in_scope, is_scope_end, end_of, place_at, is_settled}
+use Rattle.tok_buffer.specs.Moves.{frame_ahead, frame_passed, frame_enclosing, frames_at}
+use Rattle.tok_buffer.specs.Moves.{frames_in_scope, end_of, place_at}
 use Rattle.tok_buffer.specs.Moves.{in_scope, settled_at}
 use Rattle.tok_buffer.specs.Private.Layout.{entry_here}
 use Rattle.tok_buffer.specs.declared.entry.Opening.{Opening as Sort}
 use Rattle.tok_buffer.specs.declared.entry.Entry.TheVariants.{Group}
 use Rattle.tok_buffer.proofs.Layouts.{not_leaf}
 use Rattle.tok_buffer.proofs.Stacks.{frames_next, jump}
-use Rattle.tok_buffer.proofs.InScope.{ends_later, In, seen, root_settled}
+use Rattle.tok_buffer.proofs.InScope.{ends_later, root_settled}
 
 -- a frame whose front is this group
 abbrev pub Fronts : Frame → Delimiter → Span → Forest → Forest → Type 0
@@ -30,7 +30,7 @@ group_front (frame o p (tree (group d c t) f)) g k e =
     let G : Sort = record { delimiter = d; span = t } in
     let h : G ≡ g = cc in
     let q : weight c + 1 ≡ k = cc in
-    (c, f, (ap (λ x. frame o p (tree (group x.delimiter c x.span) f)) h, sym q))
+    (c, f, (rw (← h), sym q))
 
 -- the group that an entry holds, with the distance m to its end
 module _ (F : Forest) (n s : ℕ) (g : Sort) (m : ℕ) (h : in_scope F n s ≡ true)
@@ -59,15 +59,11 @@ module _ (F : Forest) (n s : ℕ) (g : Sort) (m : ℕ) (h : in_scope F n s ≡ t
 
   pub held_fits : n + m + 1 ≤ s
   held_fits =
-      omega (
-        arith,
-        held.2.1,
-        ap (λ l. weight (frame_ahead l)) held.2.0,
-        ends_later (end_of n here) s around h,
-      )
+      let here_weight = ap (λ l. weight (frame_ahead l)) held.2.0 in
+      omega (arith, held.2.1, here_weight, ends_later (end_of n here) s around h)
 
   inside : frames_at F (n + 1) ≡ (inner, outer ∷ around)
-  inside = frames_next F n ∙ ap (λ l. move l around) held.2.0
+  inside = cc (frames_next F n, held.2.0)
 
   after : frames_at F (n + m + 1) ≡ (passed, around)
   after =
@@ -80,40 +76,32 @@ module _ (F : Forest) (n s : ℕ) (g : Sort) (m : ℕ) (h : in_scope F n s ≡ t
   ends = eq-eqb (n + 1 + weight held.0) (n + m) (omega (arith, held.2.1))
 
   pub held_within : in_scope F (n + 1) (n + m) ≡ true
-  held_within = subst (In (n + 1) (n + m)) (sym inside)
-      (or_left (eqb (n + 1 + weight held.0) (n + m)) _ ends)
+  held_within = rw inside (or_left (eqb (n + 1 + weight held.0) (n + m)) _ ends)
 
   no_outer : frames_in_scope (n + 1 + weight held.0) (n + m) (outer ∷ around) ≡ []
-  no_outer = cond-true (eqb (n + 1 + weight held.0) (n + m)) [] _ ends
+  no_outer = rw ends
 
   pub held_settled : settled_at F (n + 1) (n + m) ≡ true
   held_settled =
-      ap (λ x. is_settled x.0 (frames_in_scope (end_of (n + 1) x.0) (n + m) x.1)) inside
-      ∙ ap (is_settled inner) no_outer
-      ∙ root_settled inner
+      rw (inside, no_outer) (root_settled inner)
 
   pub inside_place : (k : ℕ) → place_at k F (n + 1) (n + m)
       ≡ at k (n + 1 + weight held.0) (n + 1) inner []
   inside_place k =
       let q : n + m ≡ n + 1 + weight held.0 = omega (arith, held.2.1) in
-      ap (seen k (n + m) (n + 1)) inside
-      ∙ ap (at k (n + m) (n + 1) inner) no_outer
-      ∙ ap (λ z. at k z (n + 1) inner []) q
+      rw (inside, no_outer, q)
 
   same_end : n + m + 1 + weight held.1 ≡ end_of n here
   same_end = omega (arith, held.2.1, ap (λ l. weight (frame_ahead l)) held.2.0)
 
   pub held_after : in_scope F (n + m + 1) s ≡ true
-  held_after = subst (In (n + m + 1) s) (sym after)
-      (subst (λ z. is_scope_end z s around ≡ true) (sym same_end) h)
+  held_after = rw (after, same_end) h
 
   pub after_place : (k : ℕ) → place_at k F (n + m + 1) s
       ≡ at k s (n + (2 + weight held.0)) passed (frames_in_scope (end_of n here) s around)
   after_place k =
       let q : n + m + 1 ≡ n + (2 + weight held.0) = omega (arith, held.2.1) in
-      ap (seen k s (n + m + 1)) after
-      ∙ ap (λ z. at k s (n + m + 1) passed (frames_in_scope z s around)) same_end
-      ∙ ap (λ z. at k s z passed (frames_in_scope (end_of n here) s around)) q
+      rw (after, same_end, q)
 
   pub held_enters : (k : ℕ) (a b : Place) → a ≡ place_at k F (n + 1) (n + m) →
       b ≡ settled (place_at k F (n + m + 1) s) → enter_any (place_at k F n s)
@@ -125,6 +113,5 @@ module _ (F : Forest) (n s : ℕ) (g : Sort) (m : ℕ) (h : in_scope F n s ≡ t
         delimiter = g.delimiter;
         span = g.span;
         content = y;
-        after =
-            z;
+        after = z;
       })) (sym (ea ∙ inside_place k)) (sym (eb ∙ ap settled (after_place k)))

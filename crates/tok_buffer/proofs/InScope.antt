@@ -1,7 +1,7 @@
 -- Places, move by move.
 use Rattle.std.proofs.Common.{◌≡◌, inl, inr, ℕ, ◌+◌, ◌≤◌, ◌≢◌, true, false, eqb, List, [], ◌∷◌}
-use Rattle.std.proofs.Common.{refl, ap, sym, ◌∙◌, subst, arith, eq-eqb, ne_eqb, eqb-true}
-use Rattle.std.proofs.lemmas.Bool.{or_cases, or_right, false≢true, cases_eq, cond-true, cond-false}
+use Rattle.std.proofs.Common.{refl, ap, sym, ◌∙◌, arith, eq-eqb, ne_eqb, eqb-true}
+use Rattle.std.proofs.lemmas.Bool.{or_cases, or_right, false≢true, cases_eq}
 use Rattle.tok_core.specs.Forest.{leaf, group, Forest, no_trees, tree}
 use Rattle.tok_core.specs.Weight.{weight}
 use Rattle.tok_buffer.specs.Place.{Enclosing, whole, in_group, Frame, frame, Place, empty_place, at}
@@ -55,23 +55,17 @@ pub seen_step : (k n s : ℕ) (l : Frame) (us : List Frame) → In n s (l, us) �
     seen k s (n + 1) (move l us) ≡ advance (seen k s n (l, us))
 seen_step k n s (frame o p (tree (leaf i) f)) us h ne =
     let q : n + 1 + weight f ≡ n + (1 + weight f) = omega arith in
-    ap (λ e. at k s (n + 1) (frame o (tree (leaf i) p) f) (frames_in_scope e s us)) q
+    rw q
 seen_step k n s (frame o p (tree (group d c t) f)) us h ne =
     let q : n + 1 + weight c + 1 + weight f ≡ n + (2 + weight c + weight f) = omega arith in
     let far : n + 1 + weight c ≢ s = λ x. absurd (omega (arith, ends_later _ s us h)) in
-    ap (at k s (n + 1) (frame (in_group d t) no_trees c))
-    (cond-false (eqb (n + 1 + weight c) s) []
-    (frame o p f ∷ frames_in_scope (n + 1 + weight c + 1 + weight f) s us) (ne_eqb _ _ far)
-    ∙ ap (λ e. frame o p f ∷ frames_in_scope e s us) q)
+    rw (ne_eqb _ _ far, q)
 seen_step k n s (frame o p no_trees) [] h ne =
     absurd (ne (let q : n + 0 ≡ s = eqb-true (n + 0) s h in omega arith))
 seen_step k n s (frame o p no_trees) (u ∷ us) h ne =
     let l = frame o p no_trees in
     let far : n + 0 ≢ s = λ x. ne (omega arith) in
-    ap (λ e. at k s (n + 1) (leave_group o p u) (frames_in_scope e s us)) (left_end n o p u)
-    ∙ sym (ap (λ z. advance (at k s n l z))
-    (cond-false (eqb (n + 0) s) [] (u ∷ frames_in_scope (n + 0 + 1 + weight (frame_ahead u)) s us)
-    (ne_eqb _ _ far)))
+    rw (left_end n o p u, ne_eqb (n + 0) s far)
 
 -- where nothing is ahead and the scope's end isn't here, an outer frame is seen
 pub outer_seen : (n s : ℕ) (o : Enclosing) (p : Forest) (us : List Frame) →
@@ -81,9 +75,8 @@ outer_seen n s o p [] h ne = absurd (ne (let q : n + 0 ≡ s = eqb-true (n + 0) 
 outer_seen n s o p (u ∷ us) h ne =
     let far : n + 0 ≢ s = λ x. ne (omega arith) in (
       u,
-      _,
-      cond-false (eqb (n + 0) s) [] (u ∷ frames_in_scope (n + 0 + 1 + weight (frame_ahead u)) s us)
-          (ne_eqb _ _ far),
+      frames_in_scope (n + 0 + 1 + weight (frame_ahead u)) s us,
+      rw (ne_eqb (n + 0) s far),
     )
 
 -- the end of the scope is where nothing is ahead in a settled place
@@ -98,7 +91,7 @@ end_seen n s (frame o p no_trees) us h q =
       | inl e ↦ eq-eqb n s e
       | inr ne ↦
           let w = outer_seen n s o p us h ne in
-          absurd (false≢true (sym (ap (is_settled (frame o p no_trees)) w.2) ∙ q))
+          absurd (false≢true (rw w.2 at q))
     ]
 
 pub end_is : (k s n : ℕ) (l : Frame) (us : List Frame) → is_at_end (at k s n l us)
@@ -130,24 +123,22 @@ scope_end n s (frame o p (tree (group d c t) f)) us h e =
     absurd (omega (arith, ends_later _ s us h, e))
 scope_end n s (frame o p no_trees) [] h e = (refl, refl)
 scope_end n s (frame o p no_trees) (u ∷ us) h e =
-    (refl, cond-true (eqb (n + 0) s) [] _ (eq-eqb (n + 0) s (omega (arith, e))))
+    (refl, rw (eq-eqb (n + 0) s (omega (arith, e))))
 
 leave_finished_end : (k n s : ℕ) (l : Frame) (us : List Frame) → In n s (l, us) → n ≢ s →
     at_end (frame_ahead l) ≡ true → settled (advance (seen k s n (l, us)))
     ≡ settled (seen k s n (l, us))
 leave_finished_end k n s (frame o p (tree t f)) us h ne q = absurd (false≢true q)
 leave_finished_end k n s (frame o p no_trees) us h ne q =
-    let w = outer_seen n s o p us h ne in
-    let l = frame o p no_trees in
-    ap (λ z. settled (advance (at k s n l z))) w.2 ∙ sym (ap (λ z. settled (at k s n l z)) w.2)
+    rw (outer_seen n s o p us h ne).2 refl
 
 -- one move within a scope
 pub place_step : (k n s : ℕ) (F : Forest) → in_scope F n s ≡ true → n ≢ s →
     (in_scope F (n + 1) s ≡ true) × (place_at k F (n + 1) s ≡ advance (place_at k F n s))
 place_step k n s F h ne =
     let x = frames_at F n in (
-      subst (In (n + 1) s) (sym (frames_next F n)) (in_step n s x.0 x.1 h ne),
-      ap (seen k s (n + 1)) (frames_next F n) ∙ seen_step k n s x.0 x.1 h ne,
+      rw (frames_next F n) (in_step n s x.0 x.1 h ne),
+      rw (frames_next F n) (seen_step k n s x.0 x.1 h ne),
     )
 
 -- an end that isn't the scope's is left
@@ -176,13 +167,13 @@ settled_front F n s h = front_settled (frames_at F n).0
 pub settled_scope : (F : Forest) (n s : ℕ) → in_scope F n s ≡ true → n ≡ s → settled_at F n s ≡ true
 settled_scope F n s h e =
     let x = frames_at F n in
-    ap (is_settled x.0) (scope_end n s x.0 x.1 h e).1 ∙ root_settled x.0
+    rw (scope_end n s x.0 x.1 h e).1 (root_settled x.0)
 
 pub not_at_scope : (F : Forest) (n s : ℕ) → in_scope F n s ≡ true → settled_at F n s ≡ true →
     at_end (frame_ahead (frames_at F n).0) ≡ false → n ≢ s
 not_at_scope F n s h q f =
     let x = frames_at F n in
-    λ e. false≢true (sym f ∙ sym (end_seen n s x.0 x.1 h q) ∙ eq-eqb n s e)
+    λ e. let same = eq-eqb n s e in cc (end_seen n s x.0 x.1 h q)
 
 abbrev count_of : Place → ℕ
 count_of empty_place = 0

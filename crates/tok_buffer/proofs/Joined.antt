@@ -1,5 +1,5 @@
 -- Trees that are passed whole, and then the rest.
-use Rattle.std.proofs.Common.{◌≡◌, ◌∙◌, sym, ap, subst, refl, arith, ℕ, ◌+◌, ◌≤◌, List, [], ◌∷◌}
+use Rattle.std.proofs.Common.{◌≡◌, sym, ap, subst, refl, arith, ℕ, ◌+◌, ◌≤◌, List, [], ◌∷◌}
 use Rattle.std.proofs.Common.{Option, Some, None}
 use Rattle.tok_core.specs.Forest.{Tree, Forest, no_trees, tree, concat}
 use Rattle.tok_core.specs.Weight.{tree_weight}
@@ -10,14 +10,14 @@ use Rattle.tok_buffer.specs.Place.{leave_finished, leave_group}
 use Rattle.tok_buffer.specs.Reads.{read_tree}
 use Rattle.tok_buffer.specs.Rest.{rest, rest_in}
 use Rattle.tok_buffer.specs.Trees.{PassesTrees, here, further}
-use Rattle.tok_buffer.proofs.Between.{between_is, count_of, to_close, to_none, to_tree}
+use Rattle.tok_buffer.proofs.Between.{between_is, count_of, to_close, to_here, to_tree}
 
 -- settling changes neither the trees up to a count nor the rest, and goes no further back
 trees-settled : (e k s n : ℕ) (l : Frame) (us : List Frame)
     → trees_to e (leave_finished k s n l us) ≡ trees_to e (at k s n l us)
 trees-settled e k s n l [] = refl
 trees-settled e k s n (frame o p no_trees) (u ∷ us) =
-    trees-settled e k s (n + 1) (leave_group o p u) us ∙ sym (to_close e k s n o p u us)
+    rw (to_close e k s n o p u us) (trees-settled e k s (n + 1) (leave_group o p u) us)
 trees-settled e k s n (frame o p (tree t f)) (u ∷ us) = refl
 
 rest-left : (o : Enclosing) (p : Forest) (u : Frame) (us : List Frame)
@@ -29,7 +29,7 @@ rest-settled : (k s n : ℕ) (l : Frame) (us : List Frame)
     → rest (leave_finished k s n l us) ≡ rest_in (l ∷ us)
 rest-settled k s n l [] = refl
 rest-settled k s n (frame o p no_trees) (u ∷ us) =
-    rest-settled k s (n + 1) (leave_group o p u) us ∙ rest-left o p u us
+    rw (← rest-left o p u us) (rest-settled k s (n + 1) (leave_group o p u) us)
 rest-settled k s n (frame o p (tree t f)) (u ∷ us) = refl
 
 count-settled : (k s n : ℕ) (l : Frame) (us : List Frame)
@@ -39,10 +39,6 @@ count-settled k s n (frame o p no_trees) (u ∷ us) =
     omega (arith, count-settled k s (n + 1) (leave_group o p u) us)
 count-settled k s n (frame o p (tree t f)) (u ∷ us) = omega arith
 
-to-here : (p : Place) → trees_to (count_of p) p ≡ no_trees
-to-here empty_place = refl
-to-here (at k s n l us) = to_none n k s n l us (omega arith)
-
 -- the trees up to a place, and then those after it
 record Joins (p q : Place) : Type 0 where
   follows : Follows p q
@@ -51,11 +47,8 @@ record Joins (p q : Place) : Type 0 where
   all : rest p ≡ concat (trees_to (count_of q) p) (rest q)
 
 joins-here : (p : Place) → Joins p p
-joins-here p = record {
-  follows = from_here;
-  trees = λ e h. sym (ap (λ g. concat g (trees_to e p)) (to-here p));
-  all = sym (ap (λ g. concat g (rest p)) (to-here p));
-}
+joins-here p =
+    record { follows = from_here; trees = λ e h. rw (to_here p); all = rw (to_here p) }
 
 module _ (p : Place) (k s n : ℕ) (o : Enclosing) (b : Forest) (t : Tree) (f : Forest)
     (us : List Frame) (so : Joins p (at k s n (frame o b (tree t f)) us)) where
@@ -68,31 +61,25 @@ module _ (p : Place) (k s n : ℕ) (o : Enclosing) (b : Forest) (t : Tree) (f : 
   one : (e : ℕ) → n + tree_weight t ≤ e
       → trees_to e (at k s n (frame o b (tree t f)) us) ≡ tree t (trees_to e after)
   one e h =
-      to_tree e k s n o b t f us h
-      ∙ ap (tree t) (sym (trees-settled e k s (n + tree_weight t) (frame o (tree t b) f) us))
+      rw trees-settled (to_tree e k s n o b t f us h)
 
   taken : trees_to (count_of after) p ≡ concat (trees_to n p) (tree t no_trees)
   taken =
-      so.trees (count_of after) (omega (arith, far))
-      ∙ ap (concat (trees_to n p)) (one (count_of after) far ∙ ap (tree t) (to-here after))
+      rw (so.trees (count_of after) (omega (arith, far)), one (count_of after) far, to_here after)
 
   onwards : (g : Forest)
       → concat (trees_to n p) (tree t g) ≡ concat (trees_to (count_of after) p) g
   onwards g =
-      sym (joined_assoc (trees_to n p) (tree t no_trees) g) ∙ ap (λ x. concat x g) (sym taken)
+      rw (taken, joined_assoc)
 
   joins-past : Joins p after
   joins-past = record {
     follows = after_tree (at k s n (frame o b (tree t f)) us) so.follows;
     trees = λ e h.
-        so.trees e (omega (arith, far, h))
-        ∙ ap (concat (trees_to n p)) (one e (omega (arith, far, h)))
-        ∙ onwards (trees_to e after);
-    all =
-        so.all
-        ∙ ap (λ g. concat (trees_to n p) (tree t g))
-        (sym (rest-settled k s (n + tree_weight t) (frame o (tree t b) f) us))
-        ∙ onwards (rest after);
+        rw (so.trees e (omega (arith, far, h)), one e (omega (arith, far, h)))
+        (onwards (trees_to e after));
+    all = rw (so.all, ← rest-settled k s (n + tree_weight t) (frame o (tree t b) f) us)
+        (onwards (rest after));
   }
 
 joins : (p q : Place) → PassesTrees p q → Joins p q
@@ -109,4 +96,4 @@ joins p r (further q z ts h e) = go q (joins p q h) e where
 pub passed_join : PassedJoin
 passed_join p q h =
     let so = joins p q h in
-    ap (λ g. concat g (rest q)) (between_is p q so.follows) ∙ sym so.all
+    rw (between_is p q so.follows) (sym so.all)

@@ -1,17 +1,16 @@
 -- Laws of the layout.
 use Rattle.std.proofs.Common.{◌≡◌, ℕ, ◌+◌, ◌-◌, List, [], ◌∷◌, ◌++◌, Option, Some, None, length}
-use Rattle.std.proofs.Common.{set, refl, ap, sym, ◌∙◌, arith, append_assoc, length-append}
+use Rattle.std.proofs.Common.{set, refl, ap, arith, append_assoc, length-append}
 use Rattle.std.proofs.lemmas.List.{set_at}
 use Rattle.tok_leaves.specs.declared.span.Span.{Span}
 use Rattle.tok_lexical.specs.declared.delimiter.Delimiter.{Delimiter}
-use Rattle.tok_core.specs.Code.{top}
 use Rattle.tok_leaves.specs.Leaves.{Leaf, ident, punct, literal, ident_of, punct_of, literal_of}
 use Rattle.tok_core.specs.Forest.{Tree, leaf, group, Forest, no_trees, tree, concat, reverse_onto}
 use Rattle.tok_core.specs.Weight.{weight}
 use Rattle.tok_core.proofs.Facts.{concat-none}
 use Rattle.tok_buffer.specs.declared.entry.Entry.{Entry}
 use Rattle.tok_buffer.specs.declared.entry.Entry.TheVariants.{Ident, Punct, Literal, Group, End}
-use Rattle.tok_buffer.specs.Private.Layout.{leaf_entry, group_entry, layout, entries_of}
+use Rattle.tok_buffer.specs.Private.Layout.{leaf_entry, layout, entries_of}
 use Rattle.tok_buffer.specs.Private.Layout.{stack_entry, stack_entries, forest_in}
 use Rattle.tok_buffer.proofs.Forests.{reversed_is}
 
@@ -29,40 +28,32 @@ as_leaf-entry (literal text span) = refl
 
 pub same_leaf : (l m : Leaf) → leaf_entry l ≡ leaf_entry m → l ≡ m
 same_leaf l m e =
-    let h : Some l ≡ Some m = sym (as_leaf-entry l) ∙ ap as_leaf e ∙ as_leaf-entry m in cc
+    let h : Some l ≡ Some m = cc (as_leaf-entry l, as_leaf-entry m) in cc
 
 pub not_leaf : (x : Entry) (l : Leaf) → as_leaf x ≡ None → leaf_entry l ≡ x → ⊥
 not_leaf x l q e =
-    let h : Some l ≡ None = sym (as_leaf-entry l) ∙ ap as_leaf e ∙ q in cc
+    let h : Some l ≡ None = cc (as_leaf-entry l) in cc
 
 pub length-layout : (f : Forest) → length (layout f) ≡ weight f
 length-layout no_trees = refl
 length-layout (tree (leaf i) f) = omega (arith, length-layout f)
 length-layout (tree (group d c s) f) =
-    omega (
-      arith,
-      length-layout c,
-      length-layout f,
-      length-append (layout c)
-          (End (weight c + 1) ∷ layout f),
-    )
+    omega (arith, length-layout c, length-layout f, length-append {A = Entry})
 
 pub layout-concat : (f g : Forest) → layout (concat f g) ≡ layout f ++ layout g
 layout-concat no_trees g = refl
-layout-concat (tree (leaf i) f) g = ap (λ x. leaf_entry i ∷ x) (layout-concat f g)
+layout-concat (tree (leaf i) f) g = rw (layout-concat f g)
 layout-concat (tree (group d c s) f) g =
-    ap (λ x. group_entry d s c ∷ (layout c ++ End (weight c + 1) ∷ x)) (layout-concat f g)
-    ∙ ap (λ x. group_entry d s c ∷ x)
-    (sym (append_assoc (layout c) (End (weight c + 1) ∷ layout f) (layout g)))
+    rw (layout-concat f g, append_assoc)
 
 pub layout-reversed : (f g : Forest) → layout (reverse_onto f g) ≡ layout (reverse_onto f no_trees)
     ++ layout g
-layout-reversed f g = ap layout (reversed_is f g) ∙ layout-concat (reverse_onto f no_trees) g
+layout-reversed f g = rw (reversed_is f g) (layout-concat (reverse_onto f no_trees) g)
 
 pub stack_entries-append : (xs ys : List Entry) (s : List Forest) → stack_entries (xs ++ ys) s
     ≡ stack_entries xs (stack_entries ys s)
 stack_entries-append [] ys s = refl
-stack_entries-append (x ∷ xs) ys s = ap (stack_entry x) (stack_entries-append xs ys s)
+stack_entries-append (x ∷ xs) ys s = rw (stack_entries-append xs ys s)
 
 stack_leaf : (l : Leaf) (f : Forest) (s : List Forest) → stack_entry (leaf_entry l) (f ∷ s)
     ≡ tree (leaf l) f ∷ s
@@ -74,53 +65,42 @@ pub stack_entries-layout : (f g : Forest) (s : List Forest) → stack_entries (l
     ≡ concat f g ∷ s
 stack_entries-layout no_trees g s = refl
 stack_entries-layout (tree (leaf i) f) g s =
-    ap (stack_entry (leaf_entry i)) (stack_entries-layout f g s) ∙ stack_leaf i (concat f g) s
+    rw (stack_entries-layout f g s) (stack_leaf i (concat f g) s)
 stack_entries-layout (tree (group d c p) f) g s =
-    let e = stack_entry (group_entry d p c) in
-    ap e (stack_entries-append (layout c) (End (weight c + 1) ∷ layout f) (g ∷ s))
-    ∙ ap (λ x. e (stack_entries (layout c) (no_trees ∷ x))) (stack_entries-layout f g s)
-    ∙ ap e (stack_entries-layout c no_trees (concat f g ∷ s))
-    ∙ ap (λ x. tree (group d x p) (concat f g) ∷ s) (concat-none c)
+    let apart = stack_entries-append (layout c) (End (weight c + 1) ∷ layout f) (g ∷ s) in
+    rw (apart, stack_entries-layout f g s)
+    (rw (stack_entries-layout c no_trees (concat f g ∷ s), concat-none))
 
 forest_in-entries_of : (f : Forest) → forest_in (entries_of f) ≡ f
 forest_in-entries_of f =
-    ap top (stack_entries-append (layout f) (End 0 ∷ []) [] ∙ stack_entries-layout f no_trees [])
-    ∙ concat-none f
+    rw (stack_entries-append (layout f) (End 0 ∷ []) [], stack_entries-layout f no_trees [])
+    (concat-none f)
 
 -- what filling a group leaves
 set_first : (xs ys zs : List Entry) (x y : Entry) → set (((xs ++ x ∷ []) ++ ys) ++ zs)
     (length xs) y ≡ xs ++ y ∷ (ys ++ zs)
 set_first xs ys zs x y =
-    ap (λ w. set w (length xs) y) (append_assoc (xs ++ x ∷ []) ys zs
-    ∙ append_assoc xs (x ∷ []) (ys ++ zs)) ∙ set_at xs x (ys ++ zs) y (length xs) refl
+    simp append_assoc (set_at xs x (ys ++ zs) y (length xs) refl)
 
 pub fill_lays : (xs : List Entry) (d : Delimiter) (p : Span) (c : Forest) (ys zs : List Entry)
     (n k : ℕ) → n ≡ length xs → ys ≡ (xs ++ End 0 ∷ []) ++ layout c → k ≡ length ys →
     zs ≡ ys ++ End (k - n) ∷ [] → set zs n (Group (record { delimiter = d; span = p }) (k - n))
     ≡ xs ++ layout (tree (group d c p) no_trees)
 fill_lays xs d p c ys zs n k hn hy hk hz =
-    let off : k - n ≡ weight c + 1 = omega (
-      arith,
-      length-append (xs ++ End 0 ∷ []) (layout c),
-      length-append xs (End 0 ∷ []),
-      length-layout c,
-      ap length hy,
-    ) in
+    let off : k - n ≡ weight c + 1 =
+    omega (arith, length-append {A = Entry}, length-layout c, ap length hy) in
     rw (off, hz, off, hy, hn) (set_first xs (layout c) (End (weight c + 1) ∷ []) (End 0)
     (Group (record { delimiter = d; span = p }) (weight c + 1)))
 
 pub forest_in_is : (xs : List Entry) (f : Forest) → xs ≡ entries_of f → forest_in xs ≡ f
-forest_in_is xs f e = ap forest_in e ∙ forest_in-entries_of f
+forest_in_is xs f e = rw e (forest_in-entries_of f)
 
 pub lies : (xs : List Entry) (f : Forest) → xs ≡ entries_of f → xs ≡ entries_of (forest_in xs)
-lies xs f e = e ∙ ap entries_of (sym (forest_in_is xs f e))
+lies xs f e = rw (forest_in_is xs f e) e
 
 pub step_lays : (new old all : List Entry) (t : Tree) (before after : Forest) →
     new ≡ old ++ layout (tree t no_trees) → old ++ layout before ≡ all → before ≡ tree t after →
     new ++ layout after ≡ all
 step_lays new old all t before after e h q =
-    ap (λ z. z ++ layout after) e
-    ∙ append_assoc old (layout (tree t no_trees)) (layout after)
-    ∙ ap (λ z. old ++ z) (sym (layout-concat (tree t no_trees) after))
-    ∙ ap (λ z. old ++ layout z) (sym q)
-    ∙ h
+    let both = layout-concat (tree t no_trees) after in
+    cc (append_assoc old (layout (tree t no_trees)) (layout after))

@@ -1,10 +1,10 @@
 -- The entries of levels that are open.
-use Rattle.std.proofs.Common.{◌≡◌, ℕ, suc, ◌+◌, ◌-◌, ◌<◌, List, [], ◌∷◌, ◌++◌, length, set, refl}
-use Rattle.std.proofs.Common.{ap, sym, ◌∙◌, subst, arith, append_assoc, length-append}
+use Rattle.std.proofs.Common.{◌≡◌, ℕ, ◌+◌, ◌-◌, ◌<◌, List, [], ◌∷◌, ◌++◌, length, set, refl}
+use Rattle.std.proofs.Common.{ap, ◌∙◌, arith, append_assoc, length-append}
 use Rattle.tok_leaves.specs.declared.span.Span.{Span}
 use Rattle.tok_leaves.specs.Leaves.{Leaf}
 use Rattle.tok_lexical.specs.declared.delimiter.Delimiter.{Delimiter}
-use Rattle.tok_core.specs.Building.{Levels, add_leaf, opened, Closes, but_last, last_of, levels_of}
+use Rattle.tok_core.specs.Building.{Levels, add_leaf, opened, Closes, but_last, last_of}
 use Rattle.std.specs.Prelude.{true, ◌≤◌, Option, None, Some}
 use Rattle.std.specs.Option.{option_to_list}
 use Rattle.tok_core.specs.Filled.{has_trees}
@@ -19,21 +19,18 @@ use Rattle.tok_buffer.specs.Private.Layout.{levels_in}
 use Rattle.tok_buffer.specs.Private.Layout.{stack_entries}
 use Rattle.tok_buffer.proofs.Layouts.{length-layout, layout-concat, stack_entries-append}
 use Rattle.tok_buffer.proofs.Layouts.{stack_entries-layout, fill_lays}
+use Rattle.std.proofs.lemmas.List.{append-nil}
 
 stack-laid : (s : List Forest) (f : Forest) → stack_entries (laid s ++ layout f) (no_trees ∷ [])
     ≡ s ++ f ∷ []
-stack-laid [] f = stack_entries-layout f no_trees [] ∙ ap (λ w. w ∷ []) (concat-none f)
+stack-laid [] f = rw (stack_entries-layout f no_trees [], concat-none f)
 stack-laid (g ∷ s) f =
-    ap (λ w. stack_entries w (no_trees ∷ [])) (append_assoc (layout g) (End 0 ∷ laid s) (layout f))
-    ∙ stack_entries-append (layout g) (End 0 ∷ (laid s ++ layout f)) (no_trees ∷ [])
-    ∙ ap (λ w. stack_entries (layout g) (no_trees ∷ w)) (stack-laid s f)
-    ∙ stack_entries-layout g no_trees (s ++ f ∷ [])
-    ∙ ap (λ w. w ∷ (s ++ f ∷ [])) (concat-none g)
+    rw (append_assoc, stack_entries-append, stack-laid s f, stack_entries-layout, concat-none)
 
 -- entries that are laid so have these levels
 levels_are : (xs : List Entry) (s : List Forest) (f : Forest) → xs ≡ laid s ++ layout f →
     levels_in xs ≡ record { outer = s; inner = f }
-levels_are xs s f e = ap levels_in e ∙ ap levels_of (stack-laid s f) ∙ levels_of-put s f
+levels_are xs s f e = rw (e, stack-laid s f) (levels_of-put s f)
 
 -- what holds of a builder
 abbrev IsBuilt : List Entry → List ℕ → Levels → Type 0
@@ -41,14 +38,12 @@ IsBuilt xs ps s = (xs ≡ laid s.outer ++ layout s.inner) × (ps ≡ places 0 s.
 
 pub entries_built : (xs : List Entry) (ps : List ℕ) (s : Levels) → IsBuilt xs ps s →
     IsBuilt xs ps (levels_in xs)
-entries_built xs ps s h = subst (IsBuilt xs ps) (sym (levels_are xs s.outer s.inner h.0)) h
+entries_built xs ps s h = rw (levels_are xs s.outer s.inner h.0) h
 
 built_leaf : (xs ys : List Entry) (ps : List ℕ) (s : Levels) (l : Leaf) → IsBuilt xs ps s →
     ys ≡ xs ++ leaf_entry l ∷ [] → IsBuilt ys ps (add_leaf l s)
 built_leaf xs ys ps s l (e, p) h = (
-  h ∙ ap (λ w. w ++ leaf_entry l ∷ []) e
-      ∙ append_assoc (laid s.outer) (layout s.inner) (leaf_entry l ∷ [])
-      ∙ ap (λ w. laid s.outer ++ w) (sym (layout-concat s.inner (tree (leaf l) no_trees))),
+  rw (h, e, layout-concat, append_assoc),
   p,
 )
 
@@ -66,43 +61,29 @@ module _ (xs ys : List Entry) (ps : List ℕ) (l : Leaf) (h : IsBuilt xs ps (lev
 laid-put : (s : List Forest) (f : Forest) → laid (s ++ f ∷ []) ≡ (laid s ++ layout f) ++ End 0 ∷ []
 laid-put [] f = refl
 laid-put (g ∷ s) f =
-    ap (λ w. layout g ++ End 0 ∷ w) (laid-put s f)
-    ∙ sym (append_assoc (layout g) (End 0 ∷ (laid s ++ layout f)) (End 0 ∷ []))
-    ∙ ap (λ w. w ++ End 0 ∷ []) (sym (append_assoc (layout g) (End 0 ∷ laid s) (layout f)))
+    rw (laid-put s f) (simp append_assoc)
 
 place : (n : ℕ) (s : List Forest) (f : Forest) → places n (s ++ f ∷ []) ≡ places n s
     ++ (n + length (laid s ++ layout f)) ∷ []
-place n [] f = ap (λ w. (n + w) ∷ []) (sym (length-layout f))
+place n [] f = rw (length-layout f)
 place n (g ∷ s) f =
     let l : n + weight g + 1 + length (laid s ++ layout f)
     ≡ n + length ((layout g ++ End 0 ∷ laid s) ++ layout f) =
-    omega (
-      arith,
-      ap length (append_assoc (layout g) (End 0 ∷ laid s) (layout f)),
-      length-append (layout g) (End 0 ∷ (laid s ++ layout f)),
-      length-layout g,
-    ) in
-    ap (λ w. (n + weight g) ∷ w) (place (n + weight g + 1) s f
-    ∙ ap (λ w. places (n + weight g + 1) s ++ w ∷ []) l)
+    omega (arith, length-append {A = Entry}, length-layout) in
+    rw (place (n + weight g + 1) s f, l)
 
 first_place : (s : List Forest) (f : Forest) → places 0 (s ++ f ∷ []) ≡ places 0 s
     ++ length (laid s ++ layout f) ∷ []
 first_place s f =
     let l : 0 + length (laid s ++ layout f) ≡ length (laid s ++ layout f) = omega arith in
-    place 0 s f ∙ ap (λ w. places 0 s ++ w ∷ []) l
+    rw l at (place 0 s f)
 
 built_open : (xs ys : List Entry) (ps qs : List ℕ) (s : Levels) → IsBuilt xs ps s →
     ys ≡ xs ++ End 0 ∷ [] → qs ≡ ps ++ length xs ∷ [] → IsBuilt ys qs (opened s)
 built_open xs ys ps qs s (e, p) h q = (
-  h ∙ ap (λ w. w ++ End 0 ∷ []) e ∙ sym (laid-put s.outer s.inner)
-      ∙ sym (append_none (laid (s.outer ++ s.inner ∷ []))),
-  q ∙ ap (λ w. w ++ length xs ∷ []) p ∙ ap (λ w. places 0 s.outer ++ length w ∷ []) e
-      ∙ sym (first_place s.outer s.inner),
+  cc (laid-put s.outer s.inner, append-nil (laid (s.outer ++ s.inner ∷ []))),
+  rw (q, p, e, first_place s.outer s.inner),
 )
-  where
-    append_none : (zs : List Entry) → zs ++ [] ≡ zs
-    append_none [] = refl
-    append_none (z ∷ zs) = ap (λ w. z ∷ w) (append_none zs)
 
 module _ (xs ys : List Entry) (ps qs : List ℕ) (h : IsBuilt xs ps (levels_in xs))
     (y : ys ≡ xs ++ End 0 ∷ []) (q : qs ≡ ps ++ length xs ∷ []) where
@@ -113,10 +94,6 @@ module _ (xs ys : List Entry) (ps qs : List ℕ) (h : IsBuilt xs ps (levels_in x
   pub open_shown : (old : Levels) → levels_in xs ≡ old → levels_in ys ≡ opened old
   open_shown old e = levels_are ys (opened (levels_in xs)).outer no_trees
       (built_open xs ys ps qs (levels_in xs) h y q).0 ∙ ap opened e
-
-append_nothing : (zs : List Entry) → zs ++ [] ≡ zs
-append_nothing [] = refl
-append_nothing (z ∷ zs) = ap (λ w. z ∷ w) (append_nothing zs)
 
 -- Where a level is left, its group's place is the last one, and it is in the entries.
 pub record Left (xs : List Entry) (ps : List ℕ) (n : ℕ) (s : Levels) : Type 0 where
@@ -136,55 +113,41 @@ leaves_level xs os ps n s (e, p) some o = go s.outer refl some
     go (f ∷ t) is some =
         let ends = one_end ps (places 0 (but_last f t)) n
         (length (laid (but_last f t) ++ layout (last_of f t)))
-        (sym o ∙ p ∙ ap (places 0) (is ∙ ends_in_last f t)
-        ∙ first_place (but_last f t) (last_of f t)) in
+        (cc (o, p, is, ends_in_last f t, first_place (but_last f t) (last_of f t))) in
         record {
           outer = but_last f t;
           before = last_of f t;
           is = is ∙ ends_in_last f t;
           place = ends.1;
           places = ends.0;
-          entries = e ∙ ap (λ w. w ++ layout s.inner) (ap laid (is ∙ ends_in_last f t)
-              ∙ laid-put (but_last f t) (last_of f t));
+          entries = cc (e, is, ends_in_last f t, laid-put (but_last f t) (last_of f t));
         }
 
 -- the place is one of the entries
 pub left_before : (xs : List Entry) (ps : List ℕ) (n : ℕ) (s : Levels) → Left xs ps n s →
     n < length xs
 left_before xs ps n s h =
-    let x = laid h.outer ++ layout h.before in
-    omega (
-      arith,
-      h.place,
-      ap length h.entries,
-      length-append (x ++ End 0 ∷ []) (layout s.inner),
-      length-append x (End 0 ∷ []),
-    )
+    omega (arith, h.place, ap length h.entries, length-append {A = Entry})
 
 pub places_length : (n : ℕ) (s : List Forest) → length (places n s) ≡ length s
 places_length n [] = refl
-places_length n (f ∷ s) = ap suc (places_length (n + weight f + 1) s)
+places_length n (f ∷ s) = cc (places_length (n + weight f + 1) s)
 
 module _ (xs ys : List Entry) (ps : List ℕ) (n k : ℕ) (s : Levels) (d : Delimiter) (p : Span)
     (h : Left xs ps n s) (q : k ≡ length xs) (y : ys ≡ xs ++ End (k - n) ∷ []) where
   pub built_close : IsBuilt (set ys n (Group (record { delimiter = d; span = p }) (k - n))) ps
       (record { outer = h.outer; inner = concat h.before (tree (group d s.inner p) no_trees) })
-  built_close = (
-    fill_lays (laid h.outer ++ layout h.before) d p s.inner xs ys n k h.place h.entries q y
-        ∙ append_assoc (laid h.outer) (layout h.before) (layout (tree (group d s.inner p) no_trees))
-        ∙ ap (λ w. laid h.outer ++ w)
-        (sym (layout-concat h.before (tree (group d s.inner p) no_trees))),
-    h.places,
-  )
+  built_close =
+      let lays =
+      fill_lays (laid h.outer ++ layout h.before) d p s.inner xs ys n k h.place h.entries q y in
+      (rw (lays, append_assoc, layout-concat), h.places)
 
   pub closes : (old : Levels) → s ≡ old →
       Closes d p old (levels_in (set ys n (Group (record { delimiter = d; span = p }) (k - n))))
   closes old same =
       let e = levels_are (set ys n (Group (record { delimiter = d; span = p }) (k - n))) h.outer
       (concat h.before (tree (group d s.inner p) no_trees)) built_close.0 in
-      subst (λ w. Closes d p w
-      (levels_in (set ys n (Group (record { delimiter = d; span = p }) (k - n))))) same
-      (h.before, h.is ∙ ap (λ w. w.outer ++ h.before ∷ []) (sym e), ap (λ w. w.inner) e)
+      rw (← same) (h.before, rw e h.is, rw e)
 
 no_layout : (f : Forest) → length (layout f) ≡ 0 → f ≡ no_trees
 no_layout no_trees e = refl
@@ -199,21 +162,13 @@ some_layout (tree t f) e = refl
 inner_size : (xs : List Entry) (ps : List ℕ) (n : ℕ) (s : Levels) → Left xs ps n s →
     length xs ≡ n + 1 + length (layout s.inner)
 inner_size xs ps n s h =
-    let x = laid h.outer ++ layout h.before in
-    omega (
-      arith,
-      h.place,
-      ap length h.entries,
-      length-append (x ++ End 0 ∷ []) (layout s.inner),
-      length-append x (End 0 ∷ []),
-    )
+    omega (arith, h.place, ap length h.entries, length-append {A = Entry})
 
 -- a level with more entries after its place holds a tree
 pub left_filled : (xs : List Entry) (ps : List ℕ) (n : ℕ) (s old : Levels) → Left xs ps n s →
     s ≡ old → n + 1 < length xs → has_trees old.inner ≡ true
 left_filled xs ps n s old h e more =
-    ap (λ w. has_trees w.inner) (sym e)
-    ∙ some_layout s.inner (omega (arith, more, inner_size xs ps n s h))
+    rw (← e) (some_layout s.inner (omega (arith, more, inner_size xs ps n s h)))
 
 -- where something was taken off the end, it was the last
 pub last_taken : (xs ys : List Entry) (r : Option Entry) → (r ≡ None → ⊥) →
@@ -230,9 +185,7 @@ module _ (xs ys : List Entry) (ps : List ℕ) (n : ℕ) (s : Levels) (x : Entry)
   before_is : ys ≡ laid h.outer ++ layout h.before
   before_is =
       (one_end ys (laid h.outer ++ layout h.before) x (End 0)
-      (sym y ∙ h.entries
-      ∙ ap (λ w. ((laid h.outer ++ layout h.before) ++ End 0 ∷ []) ++ layout w) is_empty
-      ∙ append_nothing ((laid h.outer ++ layout h.before) ++ End 0 ∷ []))).0
+      (rw (← y, h.entries, is_empty, append-nil))).0
 
   built_back : IsBuilt ys ps (record { outer = h.outer; inner = h.before })
   built_back = (before_is, h.places)
@@ -242,12 +195,11 @@ module _ (xs ys : List Entry) (ps : List ℕ) (n : ℕ) (s : Levels) (x : Entry)
 
   pub back_shown : (old : Levels) → s ≡ old → old ≡ opened (levels_in ys)
   back_shown old e =
-      let now = levels_are ys h.outer h.before before_is in
-      sym e ∙ same_levels s (h.outer ++ h.before ∷ []) no_trees h.is is_empty
-      ∙ ap opened (sym now)
+      let same = same_levels s (h.outer ++ h.before ∷ []) no_trees h.is is_empty in
+      cc (levels_are ys h.outer h.before before_is)
 
 -- entries of one level alone, and an end after them
 pub end_completes : (xs ys : List Entry) (s : Levels) → xs ≡ laid s.outer ++ layout s.inner →
     s.outer ≡ [] → ys ≡ xs ++ End 0 ∷ [] → ys ≡ entries_of s.inner
 end_completes xs ys s e o y =
-    y ∙ ap (λ w. w ++ End 0 ∷ []) (e ∙ ap (λ w. laid w ++ layout s.inner) o)
+    rw (y, e, o)

@@ -1,6 +1,6 @@
 -- What is left at a cursor is as far as its scope's end is off.
 use Rattle.std.proofs.Common.{◌≡◌, inl, inr, ℕ, ◌+◌, ◌≤◌, ◌<◌, ◌≢◌, true, false, List, [], ◌∷◌}
-use Rattle.std.proofs.Common.{sym, ◌∙◌, ap, eq-eqb, arith, eqb-true, Option, Some, None}
+use Rattle.std.proofs.Common.{sym, ◌∙◌, arith, eqb-true, Option, Some, None}
 use Rattle.std.proofs.lemmas.Bool.{or_cases, cond_both, false≢true}
 use Rattle.std.specs.Prelude.{◌==◌, ◌&&◌, ⊤}
 use Rattle.tok_core.specs.Weight.{weight}
@@ -61,7 +61,7 @@ none_lost (at n s c (frame o p f) ls) (at m t d (frame a b g) ks) u v h =
     )
   where
     both : (n m c d : ℕ) → n ≡ m → c ≡ d → (n == m && c == d) ≡ true
-    both n m c d x y = ap (λ z. z && c == d) (eq-eqb n m x) ∙ eq-eqb c d y
+    both n m c d x y = grind arith
 
 pub cursors_lose_none : CursorsLoseNone
 cursors_lose_none from to =

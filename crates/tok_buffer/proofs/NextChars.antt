@@ -1,5 +1,5 @@
 -- A text past its first character.
-use Rattle.std.proofs.Common.{◌≡◌, ◌∙◌, ℕ, ◌+◌, ◌<◌, List, ◌∷◌, ◌++◌, length, sym, ap, arith}
+use Rattle.std.proofs.Common.{◌≡◌, ℕ, ◌<◌, List, ◌∷◌, ◌++◌, length, arith}
 use Rattle.std.proofs.Common.{length-append}
 use Rattle.std.specs.Char.{encode_utf8}
 use Rattle.std.specs.Str.{chars, IsUtf8}
@@ -8,13 +8,9 @@ use Rattle.std.proofs.lemmas.Str.{chars_past_char, length-encode, len_utf8_bound
 module _ (text start mid rest : List ℕ) (c : ℕ) (same : start ≡ text)
     (cut : start ≡ encode_utf8 c ++ mid) (left : rest ≡ mid) where
   pub chars_next : IsUtf8 text → chars text ≡ c ∷ chars rest
-  chars_next u = rw left (chars_past_char text mid c u (sym same ∙ cut))
+  chars_next u = rw left (chars_past_char text mid c u (cc))
 
   pub shorter_next : length rest < length text
   shorter_next =
-      let l : length text ≡ length (encode_utf8 c) + length mid = ap length (sym same ∙ cut)
-      ∙ length-append (encode_utf8 c) mid in
-      let b = length-encode c in
-      let p = (len_utf8_bounds c).0 in
-      let q : length rest ≡ length mid = ap length left in
-      omega arith
+      rw (left, ← same, cut)
+      (omega (arith, length-append (encode_utf8 c) mid, length-encode c, (len_utf8_bounds c).0))

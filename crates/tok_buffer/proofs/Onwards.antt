@@ -1,19 +1,16 @@
 -- Moves stay in their scope, and less is left after each.
-use Rattle.std.proofs.Common.{◌≡◌, ◌∙◌, ap, refl, arith, inl, inr, ℕ, ◌+◌, ◌≤◌, ◌<◌, Bool}
-use Rattle.std.proofs.Common.{true, false, List, ◌∷◌, Option, Some, None, eqb, eqb-true, subst}
+use Rattle.std.proofs.Common.{◌≡◌, ap, refl, arith, inl, inr, ℕ, ◌+◌, ◌≤◌, ◌<◌, Bool}
+use Rattle.std.proofs.Common.{true, List, ◌∷◌, Option, Some, None, eqb, eqb-true}
 use Rattle.std.proofs.lemmas.Bool.{and_parts, false≢true}
-use Rattle.std.specs.Prelude.{◌==◌, ◌&&◌, cond, unwrap_or, IfSome}
-use Rattle.std.specs.Cmp.{ranks}
-use Rattle.std.specs.Ordering.{is_le, is_lt, is_some_and, nat_cmp, MatchOrdering}
-use Rattle.std.specs.declared.cmp.Ordering.{Ordering}
-use Rattle.std.specs.declared.cmp.Ordering.TheVariants.{Less, Equal, Greater}
+use Rattle.std.specs.Prelude.{◌==◌, cond, IfSome}
+use Rattle.std.specs.Ordering.{is_le, is_lt, is_some_and, nat_cmp}
+use Rattle.std.specs.declared.cmp.Ordering.TheVariants.{Less}
 use Rattle.tok_lexical.specs.declared.delimiter.Delimiter.{Delimiter}
-use Rattle.tok_lexical.specs.declared.delimiter.Delimiter.TheVariants as delimiter
 use Rattle.tok_core.specs.Forest.{leaf, group, Tree, Forest, no_trees, tree}
 use Rattle.tok_core.specs.Weight.{tree_weight, weight}
 use Rattle.tok_buffer.specs.Descent.{descend}
 use Rattle.tok_buffer.specs.EachRead.{Read, First}
-use Rattle.tok_buffer.specs.Entry.{Entered, enter, enter_any, entered_of, same_delimiter}
+use Rattle.tok_buffer.specs.Entry.{Entered, enter, enter_any}
 use Rattle.tok_buffer.specs.Order.{order, same_scope}
 use Rattle.tok_buffer.specs.Place.{Enclosing, whole, in_group, Frame, frame, Place, empty_place, at}
 use Rattle.tok_buffer.specs.Place.{leave_group, front, pass, leave_finished}
@@ -21,10 +18,11 @@ use Rattle.tok_buffer.specs.Progress.{ReadsGoLater, ReadsKeepScope, StaysIn, rem
 use Rattle.tok_buffer.specs.Progress.{remaining_around, ReadsOn, ReadsGoOn, SkipsGoOn, EntersOn}
 use Rattle.tok_buffer.specs.Progress.{EntriesGoOn, MovesStay, StaysAlong, CallsLead, ReadLeads}
 use Rattle.tok_buffer.specs.Reads.{any_tree, read_if, read_tree, skip}
-use Rattle.tok_buffer.proofs.View.Keeps.{IsKept, kept-leave_finished, kept-descend}
-use Rattle.tok_buffer.proofs.View.Moves.{Leads, LeadsTo, IsEmpty, IsNone, leads, leads-take}
+use Rattle.tok_buffer.proofs.View.Keeps.{IsKept, of-entered, kept-leave_finished, kept-descend}
+use Rattle.tok_buffer.proofs.View.Moves.{some_weight, Leads, LeadsTo, IsEmpty, IsNone, leads, leads-take}
 use Rattle.tok_buffer.proofs.View.Moves.{leads-skip, leads-nowhere}
 use Rattle.tok_buffer.proofs.View.Readings.{Reading, each_read}
+use Rattle.std.proofs.lemmas.Option.{IfSome_then}
 
 -- a place of this buffer and scope, at this count or a later one, where at most so much is left
 abbrev Since : (number scope count most : ℕ) → Place → Type 0
@@ -36,10 +34,6 @@ leave_group_adds_nothing : (o : Enclosing) (p : Forest) (n s c d : ℕ) (u : Fra
     remaining (at n s c (leave_group o p u) us) ≤ remaining (at n s d (frame o p no_trees) (u ∷ us))
 leave_group_adds_nothing whole p n s c d (frame a b f) us = omega arith
 leave_group_adds_nothing (in_group x t) p n s c d (frame a b f) us = omega arith
-
-some_weight : (t : Tree) → 1 ≤ tree_weight t
-some_weight (leaf l) = omega arith
-some_weight (group d inside span) = omega arith
 
 -- each move keeps this, and passing a tree takes something away
 module _ (n s c m : ℕ) where
@@ -78,19 +72,9 @@ module _ (n s c m : ℕ) where
   }
 
 -- what such a place is to a reader
-eqb-same : (n : ℕ) → (n == n) ≡ true
-eqb-same n = grind arith
-
-at_most : (c d : ℕ) → c ≤ d → is_le (nat_cmp c d) ≡ true
-at_most c d h = grind arith
-
 in_scope : (n s c d : ℕ) (l m : Frame) (ls ms : List Frame) → c ≤ d →
     StaysIn (at n s c l ls) (at n s d m ms)
-in_scope n s c d l m ls ms h =
-    inl (
-      ap (λ b. b && (s == s)) (eqb-same n) ∙ eqb-same s,
-      ap (λ b. is_some_and is_le (cond b (Some (nat_cmp c d)) None)) (eqb-same n) ∙ at_most c d h,
-    )
+in_scope n s c d l m ls ms h = grind arith
 
 stays_since : (n s c e m : ℕ) (l : Frame) (ls : List Frame) (q : Place) → c ≤ e → Since n s e m q
     → StaysIn (at n s c l ls) q × (remaining q ≤ m)
@@ -98,13 +82,9 @@ stays_since n s c e m l ls empty_place h k = absurd k
 stays_since n s c e m l ls (at i t d x xs) h k =
     (rw k.0 (rw k.1 (in_scope n s c d l x ls xs (omega (arith, h, k.2)))), k.3)
 
-less : (c d : ℕ) → c < d → nat_cmp c d ≡ Less
-less c d h = grind arith
-
 in_order_later : (n s c d : ℕ) (l m : Frame) (ls ms : List Frame) → c < d →
     order (at n s c l ls) (at n s d m ms) ≡ Some Less
-in_order_later n s c d l m ls ms h = ap (λ b. cond b (Some (nat_cmp c d)) None) (eqb-same n)
-    ∙ ap Some (less c d h)
+in_order_later n s c d l m ls ms h = grind arith
 
 later_since : (n s c m : ℕ) (l : Frame) (ls : List Frame) (q : Place) → Since n s (c + 1) m q
     → order (at n s c l ls) q ≡ Some Less
@@ -125,22 +105,17 @@ goes_on n s c o p f ls q h =
 
 -- so does each call that leads where its moves lead
 module _ {A : Type 0} (end : A → Place) (move : Place → Option A) where
-  weaken : (r : Option A) (P Q : Place → Type 0) → ((q : Place) → P q → Q q)
-      → IfSome r (λ x. P (end x)) → IfSome r (λ x. Q (end x))
-  weaken None P Q f h = tt
-  weaken (Some x) P Q f h = f (end x) h
-
   goes : ((P Q : Place → Type 0) → Leads P Q → (p : Place) → P p → IfSome (move p) (λ x. Q (end x)))
       → (p : Place) → IfSome (move p) (λ x. GoesOn p (end x))
   goes on empty_place =
-      weaken (move empty_place) IsNone (GoesOn empty_place) (λ q h. absurd h)
-      (on IsEmpty IsNone leads-nowhere empty_place tt)
+      IfSome_then (move empty_place) (on IsEmpty IsNone leads-nowhere empty_place tt)
+      (λ x h. absurd h)
   goes on (at n s c (frame o p f) ls) =
       let m = weight f + remaining_around ls in
-      weaken (move (at n s c (frame o p f) ls)) (Since n s (c + 1) m)
-      (GoesOn (at n s c (frame o p f) ls)) (goes_on n s c o p f ls)
+      IfSome_then (move (at n s c (frame o p f) ls))
       (on (Since n s c (m + 1)) (Since n s (c + 1) m) (leads_on n s c m)
       (at n s c (frame o p f) ls) (refl, refl, omega arith, omega arith))
+      (λ x h. goes_on n s c o p f ls (end x) h)
 
 abbrev after_read : List Tree × Place → Place
 after_read r = r.1
@@ -162,11 +137,11 @@ visible_goes =
 
 skips_on : (p q : Place) → skip p ≡ Some q → GoesOn p q
 skips_on p q e =
-    subst (λ r. IfSome r (GoesOn p)) e (goes (λ (q : Place). q) skip (λ P Q m. leads-skip P Q m) p)
+    rw e at (goes (λ (q : Place). q) skip (λ P Q m. leads-skip P Q m) p)
 
 module _ (read : Read) (on : AllGoOn read) where
   read_on : (p : Place) (ts : List Tree) (q : Place) → read p ≡ Some (ts, q) → GoesOn p q
-  read_on p ts q e = subst (LeadsTo (GoesOn p)) e (on p)
+  read_on p ts q e = rw e at (on p)
 
   reads_on : ReadsOn read
   reads_on = record {
@@ -189,18 +164,9 @@ stays_here : (p : Place) → StaysIn p p
 stays_here empty_place = inr refl
 stays_here (at n s c l ls) = in_scope n s c c l l ls ls (omega arith)
 
-under : (c d : ℕ) → is_le (nat_cmp c d) ≡ true → c ≤ d
-under c d h = by (nat_cmp c d) (ranks c d) h
-  where
-    by : (o : Ordering) → MatchOrdering o (c < d) (c ≡ d) (d < c) → is_le o ≡ true → c ≤ d
-    by Less l h = omega (arith, l)
-    by Equal e h = omega (arith, e)
-    by Greater l h = absurd (false≢true h)
-
-in_order : (same : Bool) (o : Ordering) → is_some_and is_le (cond same (Some o) None) ≡ true →
-    is_le o ≡ true
-in_order true o h = h
-in_order false o h = absurd (false≢true h)
+in_order : (n m c d : ℕ) → is_some_and is_le (cond (n == m) (Some (nat_cmp c d)) None) ≡ true →
+    c ≤ d
+in_order n m c d h = grind arith
 
 pub record Along (n s c m t d : ℕ) : Type 0 where
   pub numbers : n ≡ m
@@ -214,8 +180,7 @@ along n s c m t d l k ls ks (inl h) =
     record {
       numbers = eqb-true n m p.0;
       scopes = eqb-true s t p.1;
-      counts =
-          under c d (in_order (eqb n m) (nat_cmp c d) h.1);
+      counts = in_order n m c d h.1;
     }
 along n s c m t d l k ls ks (inr h) = cc
 
@@ -232,27 +197,15 @@ chains (at n s c l ls) empty_place (at i u e m ms) h k = never_out i u e m ms k
 chains (at n s c x xs) (at j t d l ls) (at i u e m ms) h k =
     let a = along n s c j t d x l xs ls h in
     let b = along j t d i u e l m ls ms k in
-    let P : ℕ → Type 0 = λ z. StaysIn (at n s c x xs) (at z s e m ms) in
-    let Q : ℕ → Type 0 = λ z. StaysIn (at n s c x xs) (at i z e m ms) in
-    subst Q (a.scopes ∙ b.scopes)
-    (subst P (a.numbers ∙ b.numbers)
-    (in_scope n s c e x m xs ms (omega (arith, a.counts, b.counts))))
+    rw (← b.scopes, ← a.scopes, ← b.numbers, ← a.numbers)
+    (in_scope n s c e x m xs ms (omega (arith, a.counts, b.counts)))
 
 none_not_less : {A : Type 0} → None ≡ Some Less → A
 none_not_less h = cc
 
-same_and_less : (same : Bool) (o : Ordering) → cond same (Some o) None ≡ Some Less → (same ≡ true)
-    × (o ≡ Less)
-same_and_less true o h = (refl, ap (λ x. unwrap_or x o) h)
-same_and_less false o h = none_not_less h
-
-less_than : (c d : ℕ) → nat_cmp c d ≡ Less → c < d
-less_than c d h = by (nat_cmp c d) (ranks c d) h
-  where
-    by : (o : Ordering) → MatchOrdering o (c < d) (c ≡ d) (d < c) → o ≡ Less → c < d
-    by Less l h = l
-    by Equal e h = absurd (false≢true (ap is_lt h))
-    by Greater l h = absurd (false≢true (ap is_lt h))
+less_than : (n m c d : ℕ) → cond (n == m) (Some (nat_cmp c d)) None ≡ Some Less →
+    (n ≡ m) × (c < d)
+less_than n m c d h = grind arith
 
 strictly : (p q r : Place) → StaysIn p q → order q r ≡ Some Less → order p r ≡ Some Less
 strictly p empty_place empty_place h k = absurd (false≢true (ap (λ x. is_some_and is_lt x) k))
@@ -261,12 +214,8 @@ strictly p empty_place (at i u e m ms) h k = none_not_less k
 strictly empty_place (at j t d l ls) (at i u e m ms) h k = never_out j t d l ls h
 strictly (at n s c x xs) (at j t d l ls) (at i u e m ms) h k =
     let a = along n s c j t d x l xs ls h in
-    let b = same_and_less (j == i) (nat_cmp d e) k in
-    let f : d < e = less_than d e b.1 in
-    let P : ℕ → Type 0 = λ z. order (at n s c x xs) (at z u e m ms) ≡ Some Less in
-    subst P (a.numbers ∙ eqb-true j i b.0)
-    (ap (λ y. cond y (Some (nat_cmp c e)) None) (eqb-same n)
-    ∙ ap Some (less c e (omega (arith, a.counts, f))))
+    let b = less_than j i d e k in
+    rw (← b.0, ← a.numbers) (in_order_later n s c e x m xs ms (omega (arith, a.counts, b.1)))
 
 goes_along : (p q r : Place) → GoesOn p q → GoesOn q r → GoesOn p r
 goes_along p q r g h =
@@ -275,8 +224,7 @@ goes_along p q r g h =
 pub then_goes : {read : Read} {first : First} → Reading read first → (p q : Place) → GoesOn p q
     → LeadsTo (GoesOn p) (read q)
 then_goes {read} r p q g =
-    weaken after_read read (read q) (GoesOn q) (GoesOn p) (λ x h. goes_along p q x g h)
-    (reading_goes r q)
+    IfSome_then (read q) (reading_goes r q) (λ x h. goes_along p q x.1 g h)
 
 pub lies_nowhere : (q : Place) → GoesOn empty_place q → ⊥
 lies_nowhere empty_place g = false≢true (ap (λ x. is_some_and is_lt x) g.2)
@@ -284,7 +232,7 @@ lies_nowhere (at i u e m ms) g = none_not_less g.2
 
 pub later_count : (n s c m t d : ℕ) (l k : Frame) (ls ks : List Frame)
     → GoesOn (at n s c l ls) (at m t d k ks) → c < d
-later_count n s c m t d l k ls ks g = less_than c d (same_and_less (n == m) (nat_cmp c d) g.2).1
+later_count n s c m t d l k ls ks g = (less_than n m c d g.2).1
 
 -- a move that adds nothing
 abbrev Stays : Place → Place → Type 0
@@ -322,26 +270,15 @@ pub stays_along : StaysAlong
 stays_along = record { here = stays_here; along = chains }
 
 -- groups that are entered
-entered_is : (x e : Entered) → Some x ≡ Some e → x ≡ e
-entered_is x e h = ap (λ y. elim y [ Some z ↦ z | None ↦ x ]) h
-
 abbrev GoesIn : Place → Entered → Type 0
 GoesIn p e = GoesOn p e.after × (remaining e.content < remaining p)
 
-any_goes_in : (p : Place) (e : Entered) → enter_any p ≡ Some e → GoesIn p e
-any_goes_in empty_place e h = cc
-any_goes_in (at n s c (frame o p no_trees) ls) e h = cc
-any_goes_in (at n s c (frame o p (tree (leaf l) f)) ls) e h = cc
-any_goes_in (at n s c (frame o p (tree (group d inside span) f)) ls) e h =
-    subst (GoesIn (at n s c (frame o p (tree (group d inside span) f)) ls)) (entered_is _ e h)
+any_goes_in : (p : Place) → IfSome (enter_any p) (GoesIn p)
+any_goes_in empty_place = tt
+any_goes_in (at n s c (frame o p no_trees) ls) = tt
+any_goes_in (at n s c (frame o p (tree (leaf l) f)) ls) = tt
+any_goes_in (at n s c (frame o p (tree (group d inside span) f)) ls) =
     (pass_goes_on n s c o p (group d inside span) f ls, omega arith)
-
-of_any : (d : Delimiter) (x : Option Entered) (e : Entered) → entered_of d x ≡ Some e → x ≡ Some e
-of_any d None e h = cc
-of_any d (Some x) e h = go (same_delimiter d x.delimiter) h where
-  go : (b : Bool) → cond {A = Option Entered} b (Some x) None ≡ Some e → Some x ≡ Some e
-  go true k = k
-  go false k = cc
 
 from_descent : (p : Place) (e : Entered) → GoesIn (descend p) e → GoesIn p e
 from_descent p e g =
@@ -354,31 +291,26 @@ from_descent p e g =
       omega (arith, d.1, g.1),
     )
 
-visible_goes_in : (d : Delimiter) (p : Place) (e : Entered) →
-    entered_of d (enter_any (descend p)) ≡ Some e → GoesIn p e
-visible_goes_in d p e h =
-    from_descent p e (any_goes_in (descend p) e (of_any d (enter_any (descend p)) e h))
+any_goes : (p : Place) (e : Entered) → enter_any p ≡ Some e → GoesIn p e
+any_goes p e h = rw h at (any_goes_in p)
 
 goes_in : (d : Delimiter) (p : Place) (e : Entered) → enter d p ≡ Some e → GoesIn p e
-goes_in delimiter.None p e h = any_goes_in p e (of_any delimiter.None (enter_any p) e h)
-goes_in delimiter.Parenthesis p e h = visible_goes_in delimiter.Parenthesis p e h
-goes_in delimiter.Brace p e h = visible_goes_in delimiter.Brace p e h
-goes_in delimiter.Bracket p e h = visible_goes_in delimiter.Bracket p e h
+goes_in d p e h =
+    rw h at (of-entered (GoesIn p) d p (any_goes_in p)
+    (IfSome_then (enter_any (descend p)) (any_goes_in (descend p)) (from_descent p)))
 
 enters_on : (entry : Place → Option Entered) →
     ((p : Place) (e : Entered) → entry p ≡ Some e → GoesIn p e) → EntersOn entry
 enters_on entry on = record {
   stays = λ p e h. (on p e h).0.0;
-  lowers =
-      λ p e h. (on p e h).0.1;
+  lowers = λ p e h. (on p e h).0.1;
   inwards = λ p e h. (on p e h).1;
 }
 
 pub entries_go_on : EntriesGoOn
 entries_go_on = record {
   groups = λ d. enters_on (enter d) (goes_in d);
-  any_groups =
-      enters_on enter_any any_goes_in;
+  any_groups = enters_on enter_any any_goes;
 }
 
 pub leave_finished_remaining : (n s c : ℕ) (l : Frame) (ls : List Frame) →
@@ -397,7 +329,7 @@ calls_lead P holds = record {
   taken = λ wanted. read_leads _ (take_goes wanted);
   skips = λ p q e. holds p q (skips_on p q e);
   groups = λ d p e h. holds p e.after (goes_in d p e h).0;
-  any_groups = λ p e h. holds p e.after (any_goes_in p e h).0;
+  any_groups = λ p e h. holds p e.after (any_goes p e h).0;
 }
   where
     read_leads : (read : Read) → AllGoOn read → ReadLeads P read

@@ -23,7 +23,7 @@ use Rattle.tok_leaves.proofs.Names.{no_text}
 -- a keyword is read where it has a text
 pub no_keyword : (text : List ℕ) (p : Place) → (length text == 0) ≡ true →
     is_some (read_keyword text p) ≡ false
-no_keyword text p e = ap (λ bs. is_some (read_keyword bs p)) (no_text text e)
+no_keyword text p e = rw (no_text text e)
 
 pub keyword_word : (text : List ℕ) (p : Place) → (length text == 0) ≡ false → read_keyword text p
     ≡ read_word (bytes_eq text) p
@@ -59,12 +59,11 @@ is_alone Alone apart = refl
 module _ (c : ℕ) where
   pub last_next : (text : List ℕ) (t : Tree) → (length text == 0) ≡ true →
       is_next_of c (chars text) t ≡ is_punct_of c t
-  last_next text t e = ap (λ bs. is_next_of c (chars bs) t) (no_text text e)
-      ∙ ap (λ cs. is_next_of c cs t) chars-nil
+  last_next text t e = rw (no_text text e, chars-nil)
 
   alone_before : (cs text : List ℕ) (d : ℕ) (span : Span) → encode_utf8_all cs ≡ text →
       (length text == 0) ≡ false → is_next_of c cs (leaf (punct d Alone span)) ≡ false
-  alone_before [] text d span e h = absurd (false≢true (sym h ∙ ap (λ bs. length bs == 0) (sym e)))
+  alone_before [] text d span e h = cc
   alone_before (x ∷ xs) text d span e h = refl
 
   pub alone_next : (text : List ℕ) (d : ℕ) (span : Span) → IsUtf8 text → (length text == 0)
@@ -86,7 +85,7 @@ after_then : (r : Option (List Tree × Place)) (q : Place)
     ≡ is_some (g q)
 after_then None q g e = cc
 after_then (Some r) q g e =
-    let same : r.1 ≡ q = cc in then_is_some r g ∙ ap (λ p. is_some (g p)) same
+    let same : r.1 ≡ q = cc in rw (← same) (then_is_some r g)
 
 pub joint_then : (c d : ℕ) (cs : List ℕ) (p q : Place) →
     place_after (read_if (is_joint_of c) (descend p)) ≡ Some q →

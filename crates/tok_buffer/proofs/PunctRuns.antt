@@ -1,5 +1,5 @@
 -- Puncts read one by one.
-use Rattle.std.proofs.Common.{◌≡◌, ◌∙◌, sym, ap, ℕ, ◌+◌, ◌<◌, refl, List, [], ◌∷◌, ◌++◌, arith}
+use Rattle.std.proofs.Common.{◌≡◌, sym, ap, ℕ, ◌+◌, ◌<◌, refl, List, [], ◌∷◌, ◌++◌, arith}
 use Rattle.std.proofs.Common.{length, set, take, map, Option, Some, None}
 use Rattle.std.proofs.lemmas.List.{append_assoc, map-append, take_more_set}
 use Rattle.tok_leaves.specs.declared.span.Span.{Span}
@@ -8,7 +8,7 @@ use Rattle.tok_buffer.specs.declared.cursor.Cursor.{Cursor}
 use Rattle.tok_buffer.specs.declared.spot.Spot.{Spot}
 use Rattle.tok_buffer.specs.Cursors.{place_of, spot_place}
 use Rattle.tok_buffer.specs.Place.{Place, empty_place}
-use Rattle.tok_buffer.specs.Reads.{read_then, read_next, read_punctuation}
+use Rattle.tok_buffer.specs.Reads.{read_next, read_punctuation}
 
 abbrev Read : Type 0
 Read = Option (List Tree × Place)
@@ -37,8 +37,7 @@ so_far_start text start spans = record {
   done = [];
   counted = omega arith;
   kept = refl;
-  reads =
-      sym (same (read_all text start));
+  reads = sym (same (read_all text start));
 } where
   same : (x : Read) → after [] x ≡ x
   same None = refl
@@ -47,12 +46,12 @@ so_far_start text start spans = record {
 after-after : (done : List Tree) (t : Tree) (x : Read) → after done (after (t ∷ []) x)
     ≡ after (done ++ t ∷ []) x
 after-after done t None = refl
-after-after done t (Some r) = ap (λ ts. Some (ts, r.1)) (sym (append_assoc done (t ∷ []) r.0))
+after-after done t (Some r) = rw append_assoc
 
 one_more : (c : ℕ) (cs : List ℕ) (p q : Place) (t : Tree) → read_next c cs p ≡ Some (t ∷ [], q) →
     read_all (c ∷ cs) p ≡ after (t ∷ []) (read_all cs q)
 one_more c [] p q t e = e
-one_more c (d ∷ cs) p q t e = ap (λ x. read_then x (read_punctuation (d ∷ cs))) e
+one_more c (d ∷ cs) p q t e = rw e
 
 module _ (text : List ℕ) (start : Place) (i : ℕ) (spans : List Span) (left : List ℕ)
     (here : Place) (so : SoFar text start i spans left here) where
@@ -61,11 +60,9 @@ module _ (text : List ℕ) (start : Place) (i : ℕ) (spans : List Span) (left :
       SoFar text start (i + 1) (set spans i (tree_span t)) cs q
   so_far_more c cs t q low e h = record {
     done = so.done ++ t ∷ [];
-    counted = let n : length left ≡ length (c ∷ cs) = ap length e in omega (arith, so.counted, n);
-    kept = take_more_set spans i (tree_span t) low ∙ ap (λ xs. xs ++ tree_span t ∷ []) so.kept
-        ∙ sym (map-append tree_span so.done (t ∷ []));
-    reads = so.reads ∙ ap (after so.done) (ap (λ x. read_all x here) e
-        ∙ one_more c cs here q t h) ∙ after-after so.done t (read_all cs q);
+    counted = omega (arith, so.counted, ap length e);
+    kept = rw (take_more_set spans i (tree_span t) low, so.kept, map-append);
+    reads = rw (so.reads, e, one_more c cs here q t h) (after-after so.done t (read_all cs q));
   }
 
 -- the place of a spot, if there is one
@@ -74,7 +71,7 @@ placed spot = elim spot [ None ↦ empty_place | Some s ↦ spot_place s ]
 
 pub at_spot : (cursor : Cursor) (spot : Spot) → cursor.spot ≡ Some spot → place_of cursor
     ≡ spot_place spot
-at_spot cursor spot e = ap placed e
+at_spot cursor spot e = rw e
 
 nothing_at_empty : (cs : List ℕ) → read_punctuation cs empty_place ≡ None
 nothing_at_empty [] = refl
@@ -83,4 +80,4 @@ nothing_at_empty (c ∷ (d ∷ cs)) = refl
 
 pub nothing_without_spot : (cursor : Cursor) (cs : List ℕ) → cursor.spot ≡ None →
     read_punctuation cs (place_of cursor) ≡ None
-nothing_without_spot cursor cs e = ap (λ s. read_punctuation cs (placed s)) e ∙ nothing_at_empty cs
+nothing_without_spot cursor cs e = rw e (nothing_at_empty cs)

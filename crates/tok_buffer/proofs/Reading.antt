@@ -1,5 +1,5 @@
 -- A text read into a buffer follows the grammar.
-use Rattle.std.proofs.Common.{◌≡◌, ◌∙◌, ◌++◌, ℕ, List, sym, ap, subst, refl, Ok, Err, Result}
+use Rattle.std.proofs.Common.{◌≡◌, ◌∙◌, ℕ, List, sym, refl, Ok, Err, Result}
 use Rattle.std.proofs.lemmas.List.{append_cancel_right}
 use Rattle.std.specs.Result.{IfOk, IfErr}
 use Rattle.tok_core.specs.Lexical.Errors.{OnRefused}
@@ -43,8 +43,7 @@ module _ (begin : ℕ) (mode : Mode) (number : ℕ) (text : List ℕ) where
   same_reading (Ok a) (Ok b) n p q f g =
       λ i. record {
         number = (p ∙ sym q) i;
-        forest = forest_once begin mode number text a.forest
-            b.forest f.reads g.reads i;
+        forest = forest_once begin mode number text a.forest b.forest f.reads g.reads i;
       }
   same_reading (Ok a) (Err (Refused e)) n p q f g = never_both begin mode number text a.forest e
       f.reads g.refuses
@@ -59,27 +58,20 @@ module _ (begin : ℕ) (mode : Mode) (number : ℕ) (text : List ℕ) where
   -- a stream that is laid out follows what was read
   pub kept_follows : (read out : Result Forest LexFault) → KeepsReading read out →
       FollowsFrom begin mode number text read → FollowsFrom begin mode number text out
-  kept_follows read (Ok f) k h = subst (FollowsFrom begin mode number text) k h
-  kept_follows read (Err (Refused e)) k h = subst (FollowsFrom begin mode number text) k h
+  kept_follows read (Ok f) k h = rw k at h
+  kept_follows read (Err (Refused e)) k h = rw k at h
   kept_follows read (Err Memory) k h = record {
     reads = tt;
     only_read = λ f r. refl;
-    refuses =
-        tt;
+    refuses = tt;
     only_refused = λ e r. tt;
   }
 
 pub kept_source : (edition : Edition) (number : ℕ) (text : List ℕ)
     (read out : Result Forest LexFault) → KeepsReading read out →
     FollowsSource edition number text read → FollowsSource edition number text out
-kept_source edition number text read out k (front, rest, cut, begins, f) = (
-  front,
-  rest,
-  cut,
-  begins,
-  kept_follows (bytes front) (Source edition) number rest read
-      out k f,
-)
+kept_source edition number text read out k (front, rest, cut, begins, f) =
+    (front, rest, cut, begins, kept_follows (bytes front) (Source edition) number rest read out k f)
 
 -- two readings of one source are the same: it begins at one place
 pub same_source : (edition : Edition) (number : ℕ) (text : List ℕ)
@@ -90,9 +82,6 @@ same_source edition number text one other n p q (front, rest, cut, begins, f)
     (front', rest', cut', begins', g) =
     let at_rest : rest' ≡ rest = begins_once begins' begins in
     let at_front : front' ≡ front = append_cancel_right front' front rest
-    (ap (λ w. front' ++ w) (sym at_rest) ∙ sym cut' ∙ cut) in
+    (cc (at_rest, cut, cut')) in
     same_reading (bytes front) (Source edition) number rest one other n p q f
-    (subst (λ w. FollowsFrom (bytes w) (Source edition) number rest (forest_of other))
-    at_front
-    (subst (λ w. FollowsFrom (bytes front') (Source edition) number w (forest_of other))
-    at_rest g))
+    (rw (at_front, at_rest) at g)

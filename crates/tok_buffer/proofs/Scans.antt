@@ -1,6 +1,6 @@
 -- One scan forward finds the first visible tree.
-use Rattle.std.proofs.Common.{◌≡◌, ℕ, ◌+◌, ◌-◌, Bool, true, false, List, [], ◌∷◌, ◌++◌, Some}
-use Rattle.std.proofs.Common.{refl, ap, ap₂, sym, ◌∙◌, arith, append_assoc, ltb, lt-ltb}
+use Rattle.std.proofs.Common.{◌≡◌, ℕ, ◌+◌, ◌-◌, Bool, true, List, [], ◌∷◌, ◌++◌, Some}
+use Rattle.std.proofs.Common.{refl, arith, append_assoc, ltb, lt-ltb}
 use Rattle.std.proofs.lemmas.Bool.{false≢true}
 use Rattle.std.specs.Prelude.{not}
 use Rattle.tok_lexical.specs.declared.delimiter.Delimiter.{Delimiter}
@@ -27,7 +27,7 @@ shown d (at k s n l us) = shown_in d (l ∷ us)
 
 none_marked : (ls : List Frame) → ahead_in ls ≡ shown_in 0 ls
 none_marked [] = refl
-none_marked (frame o p a ∷ ls) = ap (λ z. visible false a ++ z) (none_marked ls)
+none_marked (frame o p a ∷ ls) = rw (none_marked ls)
 
 pub shown_is : (p : Place) → marked_ahead p ≡ shown 0 p
 shown_is empty_place = refl
@@ -51,9 +51,7 @@ shown_front d empty_place t e h = cc
 shown_front d (at k s n (frame o p no_trees) us) t e h = cc
 shown_front d (at k s n (frame o p (tree u f)) us) t e h =
     let w : t ≡ u = cc in
-    ap (λ z. first_of (z ++ shown_in (d - 1) us))
-    (visible_first (ltb 0 d) u f (sym (ap is_visible w) ∙ h))
-    ∙ ap (λ z. Some (ltb 0 d, tree_span z)) (sym w)
+    rw (← w, visible_first (ltb 0 d) t f h)
 
 -- an invisible group is entered
 opened : (d : ℕ) (c f : Forest) (us : List Frame) →
@@ -61,9 +59,7 @@ opened : (d : ℕ) (c f : Forest) (us : List Frame) →
     ≡ (visible true c ++ visible (ltb 0 d) f) ++ shown_in (d - 1) us
 opened d c f us =
     let q : d + 1 - 1 ≡ d = omega arith in
-    ap₂ (λ b e. visible b c ++ (visible (ltb 0 e) f ++ shown_in (e - 1) us))
-    (lt-ltb 0 (d + 1) (omega arith)) q
-    ∙ sym (append_assoc (visible true c) (visible (ltb 0 d) f) (shown_in (d - 1) us))
+    rw (q, lt-ltb 0 (d + 1) (omega arith), append_assoc)
 
 pub shown_open : (d : ℕ) (p : Place) (x : Delimiter) (c : Forest) (t : Span) →
     front p ≡ Some (group x c t) → same_delimiter x delimiter.None ≡ true →
@@ -75,7 +71,7 @@ shown_open d (at k s n (frame o p (tree (group delimiter.None b y) f)) us) x c t
     opened d b f us
 shown_open d (at k s n (frame o p (tree (group z b y) f)) us) x c t e h =
     let w : x ≡ z = cc in
-    absurd (false≢true (sym (ap (λ v. same_delimiter v delimiter.None) w) ∙ h))
+    absurd (false≢true (rw w at h))
 
 -- a group ends
 pub shown_close : (d : ℕ) (p : Place) → ends_group p ≡ true → shown (d - 1) (advance p) ≡ shown d p
@@ -88,7 +84,7 @@ shown_close d (at k s n (frame (in_group x t) p no_trees) (frame o q g ∷ us)) 
 none_shown : (d k s n : ℕ) (l : Frame) (us : List Frame) → frame_ahead l ≡ no_trees → us ≡ [] →
     shown d (at k s n l us) ≡ []
 none_shown d k s n (frame o p f) us e q =
-    ap₂ (λ g vs. visible (ltb 0 d) g ++ shown_in (d - 1) vs) e q
+    rw (e, q)
 
 -- at the scope's end nothing is shown
 pub shown_done : (d : ℕ) (a : Ahead) → a.position ≡ a.scope → shown d (ahead_place a) ≡ []

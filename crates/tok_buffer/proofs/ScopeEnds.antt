@@ -1,10 +1,10 @@
 -- Visible trees, and the end of a scope.
-use Rattle.std.proofs.Common.{◌≡◌, ◌∙◌, ap, subst, refl, arith, ℕ, ◌+◌, ◌<◌, ◌≤◌}
+use Rattle.std.proofs.Common.{◌≡◌, ◌∙◌, ap, refl, arith, ℕ, ◌+◌, ◌<◌, ◌≤◌}
 use Rattle.std.proofs.Common.{true, List, [], ◌∷◌, Option, Some, None}
 use Rattle.std.proofs.lemmas.Bool.{false≢true}
 use Rattle.tok_lexical.specs.declared.delimiter.Delimiter.TheVariants as delimiter
 use Rattle.tok_core.specs.Erase.{erase}
-use Rattle.tok_core.specs.Forest.{Tree, leaf, group, no_trees, tree, concat}
+use Rattle.tok_core.specs.Forest.{Tree, leaf, group, no_trees, tree}
 use Rattle.tok_core.specs.Weight.{weight}
 use Rattle.tok_core.proofs.Erasures.{erase_concat}
 use Rattle.tok_buffer.specs.Buffer.{Laid}
@@ -27,7 +27,7 @@ use Rattle.tok_buffer.proofs.Onwards.{reads_go_on, reads_keep_scope}
 use Rattle.tok_buffer.proofs.View.Erased.{erased-descend, erased-leave_finished}
 use Rattle.tok_buffer.proofs.View.Keeps.{IsDescended, descended-descend}
 use Rattle.tok_buffer.proofs.View.Laws.{reached_leads_on}
-use Rattle.tok_buffer.proofs.View.Moves.{LeadsTo, leads-take}
+use Rattle.tok_buffer.proofs.View.Moves.{leads-take, read_parts}
 
 -- the front tree at the end of a descent
 front-visible : (p : Place) → IsDescended p
@@ -49,26 +49,16 @@ pub visible_tells : (p : Place) → erased_read (read_visible p) ≡ first_if an
 visible_tells p =
     front-visible (descend p) (descended-descend p) ∙ ap (first_if any_tree) (erased-descend p)
 
-some-first : {A B : Type 0} {x y : A × B} → Some x ≡ Some y → x.0 ≡ y.0
-some-first {A} {B} {x} {y} e = let k : x ≡ y = cc in ap (λ p. p.0) k
-
-same-tree : (t u : Tree) (p q : Place)
-    → ◌≡◌ {A = Option (List Tree × Place)} (Some (t ∷ [], p)) (Some (u ∷ [], q)) → t ≡ u
-same-tree t u p q e =
-    let m = some-first {A = List Tree} {x = (t ∷ [], p)} {y = (u ∷ [], q)} e in cc
-
 front-erased : (p : Place) → IsDescended p → (t : Tree) (q : Place)
     → read_tree p ≡ Some (t ∷ [], q) → erase (tree t no_trees) ≡ tree (erased_tree t) no_trees
 front-erased empty_place h t q e = absurd (cc)
 front-erased (at n s c (frame o p no_trees) ls) h t q e = absurd (cc)
 front-erased (at n s c (frame o p (tree (leaf l) f)) ls) h t q e =
-    let i = same-tree (leaf l) t _ q e in
-    subst (λ x. erase (tree x no_trees) ≡ tree (erased_tree x) no_trees) i refl
+    let (same, after) = read_parts (leaf l) t _ q e in rw (← same)
 front-erased (at n s c (frame o p (tree (group delimiter.None inside span) f)) ls) h t q e =
     absurd h
 front-erased (at n s c (frame o p (tree (group d inside span) f)) ls) h t q e =
-    let i = same-tree (group d inside span) t _ q e in
-    subst (λ x. erase (tree x no_trees) ≡ tree (erased_tree x) no_trees) i refl
+    let (same, after) = read_parts (group d inside span) t _ q e in rw (← same)
 
 -- a visible tree is one tree without invisible groups
 pub visible_erased : (p : Place) (t : Tree) (q : Place) → read_visible p ≡ Some (t ∷ [], q)
@@ -125,7 +115,7 @@ passes-keep p z (further q r ts h e) i =
       reads_keep_scope.along p q r k.0 (reads_keep_scope.calls.trees q ts r e),
       omega (arith, k.1, reads_go_on.trees.lowers q ts r e),
       λ b j.
-          subst (LeadsTo (Reached b)) e
+          rw e at
           (leads-take (Reached b) (Reached b) (reached_leads_on b) any_tree q (k.2 b j)),
     )
 
@@ -133,7 +123,7 @@ passes-keep p z (further q r ts h e) i =
 rest-erased : (ls : List Frame) → erase (rest_in ls) ≡ erased_in ls
 rest-erased [] = refl
 rest-erased (frame o p a ∷ ls) =
-    erase_concat a (rest_in ls) ∙ ap (concat (erase a)) (rest-erased ls)
+    rw (erase_concat a (rest_in ls), rest-erased ls)
 
 pub rest_erased : (p : Place) → erase (rest p) ≡ erased_ahead p
 rest_erased empty_place = refl

@@ -39,22 +39,21 @@ before (frame o p f) us = (outside o (reverse_onto p f) us).0 ++ layout (reverse
 abbrev pub after : Frame → List Frame → List Entry
 after (frame o p f) us = layout f ++ (outside o (reverse_onto p f) us).1
 
+-- the trees of a frame do not matter
+nested-same : (o : Enclosing) (p f q g : Forest) (us : List Frame) → nested (frame o p f) us
+    → nested (frame o q g) us
+nested-same whole p f q g [] h = h
+nested-same whole p f q g (u ∷ us) h = h
+nested-same (in_group d s) p f q g [] h = h
+nested-same (in_group d s) p f q g (u ∷ us) h = h
+
 move-nested : (l : Frame) (us : List Frame) → nested l us → nested (move l us).0 (move l us).1
 move-nested (frame whole p no_trees) [] h = h
 move-nested (frame (in_group d s) p no_trees) [] h = h
 move-nested (frame whole p no_trees) (u ∷ us) h = absurd h
-move-nested (frame (in_group d s) p no_trees) (frame whole q g ∷ []) h = h
-move-nested (frame (in_group d s) p no_trees) (frame whole q g ∷ u ∷ us) h = h
-move-nested (frame (in_group d s) p no_trees) (frame (in_group e t) q g ∷ []) h = h
-move-nested (frame (in_group d s) p no_trees) (frame (in_group e t) q g ∷ u ∷ us) h = h
-move-nested (frame whole p (tree (leaf i) f)) [] h = h
-move-nested (frame whole p (tree (leaf i) f)) (u ∷ us) h = h
-move-nested (frame (in_group d s) p (tree (leaf i) f)) [] h = h
-move-nested (frame (in_group d s) p (tree (leaf i) f)) (u ∷ us) h = h
-move-nested (frame whole p (tree (group d c s) f)) [] h = h
-move-nested (frame whole p (tree (group d c s) f)) (u ∷ us) h = h
-move-nested (frame (in_group e t) p (tree (group d c s) f)) [] h = h
-move-nested (frame (in_group e t) p (tree (group d c s) f)) (u ∷ us) h = h
+move-nested (frame (in_group d s) p no_trees) (frame o q g ∷ us) h = nested-same o _ _ _ _ us h
+move-nested (frame o p (tree (leaf i) f)) us h = nested-same o _ _ _ _ us h
+move-nested (frame o p (tree (group d c s) f)) us h = nested-same o _ _ _ _ us h
 
 -- a move goes past one entry
 abbrev pub Moves : Frame → List Frame → Type 0
@@ -67,8 +66,7 @@ leaf_moves : (r : List Entry × List Entry) (p : Forest) (i : Leaf) (f : Forest)
     ≡ (r.0 ++ layout (reverse_onto p no_trees)) ++ leaf_entry i ∷ [])
     × (leaf_entry i ∷ (layout f ++ r.1) ≡ leaf_entry i ∷ (layout f ++ r.1))
 leaf_moves r p i f = (
-  ap (λ z. r.0 ++ z) (layout-reversed p (tree (leaf i) no_trees))
-      ∙ sym (append_assoc r.0 (layout (reverse_onto p no_trees)) (leaf_entry i ∷ [])),
+  rw (layout-reversed p (tree (leaf i) no_trees), append_assoc),
   refl,
 )
 
@@ -78,11 +76,7 @@ open_moves : (r : List Entry × List Entry) (p : Forest) (d : Delimiter) (s : Sp
     ≡ (r.0 ++ layout (reverse_onto p no_trees)) ++ group_entry d s c ∷ [])
     × (group_entry d s c ∷ ((layout c ++ End (weight c + 1) ∷ layout f) ++ r.1)
     ≡ group_entry d s c ∷ (layout c ++ End (weight c + 1) ∷ (layout f ++ r.1)))
-open_moves r p d s c f = (
-  append-nil _,
-  ap (λ x. group_entry d s c ∷ x)
-      (append_assoc (layout c) (End (weight c + 1) ∷ layout f) r.1),
-)
+open_moves r p d s c f = (append-nil _, rw append_assoc)
 
 close_moves : (r : List Entry × List Entry) (q : Forest) (d : Delimiter) (s : Span)
     (x g : Forest) → (r.0 ++ layout (reverse_onto q (tree (group d x s) no_trees))
@@ -127,8 +121,7 @@ step_at E w n (frame o p f) us he hn (h, hw, hl) =
           let x = entry_here (frame o p f) in
           let a' = after (move (frame o p f) us).0 (move (frame o p f) us).1 in (
             move-nested (frame o p f) us h,
-            hw ∙ ap (λ z. b ++ z) m.1 ∙ sym (append_assoc b (x ∷ []) a')
-                ∙ ap (λ z. z ++ a') (sym m.0),
+            cc (hw, m.1, m.0, append_assoc b (x ∷ []) a'),
             omega (arith, ap length m.0, length-append b (x ∷ [])),
           )
     ]
@@ -189,14 +182,14 @@ jump F (tree (group d c s) g) n o p f us e =
 pub frames_next : (F : Forest) (n : ℕ) → frames_at F (n + 1) ≡ move (frames_at F n).0
     (frames_at F n).1
 unfolding frames_at
-frames_next F n = rw add-one refl
+frames_next F n = rw add-one
 
 -- what a buffer's entries tell
 pub laid_length : (E : List Entry) (F : Forest) → E ≡ entries_of (forest_in E) →
     forest_in E ≡ F → length E ≡ weight F + 1
-laid_length E F e v = ap length (e ∙ ap entries_of v) ∙ length-entries_of F
+laid_length E F e v = rw (e, v) (length-entries_of F)
 
 pub laid_entry : (E : List Entry) (F : Forest) (n : ℕ) (x : Entry) →
     E ≡ entries_of (forest_in E) → forest_in E ≡ F → n ≤ weight F → x ≡ get_or E n x →
     x ≡ entry_here (frames_at F n).0
-laid_entry E F n x e v h q = q ∙ ap (λ z. get_or z n x) (e ∙ ap entries_of v) ∙ entry_at F n x h
+laid_entry E F n x e v h q = cc (q, e, v, entry_at F n x h)

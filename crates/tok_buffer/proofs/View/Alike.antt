@@ -1,5 +1,5 @@
 -- The laws of views, as relations of what two calls return.
-use Rattle.std.proofs.Common.{◌≡◌, ◌∙◌, sym, ap, ap₂, refl, true, List, Option, Some, None}
+use Rattle.std.proofs.Common.{◌≡◌, ap, refl, true, List, Option, Some, None}
 use Rattle.std.specs.Prelude.{⊤, IfSome, option_map}
 use Rattle.tok_lexical.specs.declared.delimiter.Delimiter.{Delimiter}
 use Rattle.tok_core.specs.Erase.{erase}
@@ -14,12 +14,13 @@ use Rattle.tok_buffer.specs.Reached.{Reached, begin, nowhere}
 use Rattle.tok_buffer.specs.Reads.{skip}
 use Rattle.tok_buffer.specs.Rest.{scope_delimiter}
 use Rattle.tok_buffer.specs.SameView.{leftover_span, SameView}
-use Rattle.tok_buffer.specs.View.{entered_view, delimiter_in_view, IsVisibleDelimiter}
-use Rattle.tok_buffer.specs.View.{one_scope_in_view, view, with_view}
+use Rattle.tok_buffer.specs.View.{entered_view, IsVisibleDelimiter}
+use Rattle.tok_buffer.specs.View.{view, with_view}
 use Rattle.tok_buffer.proofs.View.Laws.{calls_lead_on, reached_leads_on, read-same, starts_agree}
 use Rattle.tok_buffer.proofs.View.Laws.{views_decide, views_tell_delimiters, views_tell_scopes}
 use Rattle.tok_buffer.proofs.View.Moves.{LeadsTo, leads}
 use Rattle.tok_buffer.proofs.View.Readings.{Reading}
+use Rattle.std.proofs.lemmas.Option.{some_pair_parts}
 
 abbrev pub Alike : Laid → Laid → Place → Place → Type 0
 Alike = SameView
@@ -73,8 +74,7 @@ module _ (f g : Laid) where
 
     pub alike-delimiter : scope_delimiter p ≡ scope_delimiter q
     alike-delimiter =
-        views_tell_delimiters f.forest p ∙ ap delimiter_in_view h.same
-        ∙ sym (views_tell_delimiters g.forest q)
+        cc (views_tell_delimiters f.forest p, h.same, views_tell_delimiters g.forest q)
 
     -- places to which both lead
     alike-next : (r t : Place) → Reached f r → Reached g t → view f.forest r ≡ view g.forest t
@@ -94,8 +94,9 @@ module _ (f g : Laid) where
     -- two places are in one scope exactly where the places alike to them are
     pub alike-scope : (r t : Place) → Alike f g r t → same_scope p r ≡ same_scope q t
     alike-scope r t k =
-        views_tell_scopes f h.left_filled p r h.left k.left ∙ ap₂ one_scope_in_view h.same k.same
-        ∙ sym (views_tell_scopes g h.right_filled q t h.right k.right)
+        let left = views_tell_scopes f h.left_filled p r h.left k.left in
+        let right = views_tell_scopes g h.right_filled q t h.right k.right in
+        cc (h.same, k.same)
 
     pub alike-reading : {read : Read} {first : First} → Reading read first
         → ReadsAlike f g (read p) (read q)
@@ -109,8 +110,9 @@ module _ (f g : Laid) where
         go None (Some y) i j e = absurd (cc)
         go (Some x) None i j e = absurd (cc)
         go (Some x) (Some y) i j e =
-            let parts = some_same (x.0, view f.forest x.1) (y.0, view g.forest y.1) e in
-            (ap (λ z. z.0) parts, alike-next x.1 y.1 i j (ap (λ z. z.1) parts))
+            let (trees, views) =
+            some_pair_parts x.0 y.0 (view f.forest x.1) (view g.forest y.1) e in
+            (trees, alike-next x.1 y.1 i j views)
 
     pub alike-skip : PlacesAlike f g (skip p) (skip q)
     alike-skip =

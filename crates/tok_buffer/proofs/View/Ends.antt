@@ -1,5 +1,5 @@
 -- The end of a scope in a filled forest.
-use Rattle.std.proofs.Common.{◌≡◌, ◌∙◌, sym, ap, refl, ℕ, ◌+◌, true, ◌&&◌, ◌||◌, not}
+use Rattle.std.proofs.Common.{◌≡◌, refl, ℕ, ◌+◌, true, ◌&&◌, not}
 use Rattle.std.proofs.Common.{List, [], ◌∷◌}
 use Rattle.std.specs.Prelude.{⊤}
 use Rattle.std.proofs.lemmas.Bool.{and_parts}
@@ -49,7 +49,7 @@ kept-filled = record {
 }
 
 has-front : (a b : Forest) → has_trees a ≡ true → has_trees (concat a b) ≡ true
-has-front a b h = has_trees_concat a b ∙ ap (λ x. x || has_trees b) h
+has-front a b h = rw (has_trees_concat a b, h)
 
 -- in a filled forest a place is at an end exactly where no visible tree is ahead
 pub end_tells : (p : Place) → IsSettled p → IsFilledPlace p
@@ -61,7 +61,6 @@ end_tells (at n s c (frame o p (tree (leaf l) f)) ls) h k = refl
 end_tells (at n s c (frame o p (tree (group delimiter.None inside span) f)) ls) h k =
     let outer = and_parts (has_trees (erase inside) && filled inside) (filled f) k.0 in
     let inner = and_parts (has_trees (erase inside)) (filled inside) outer.0 in
-    sym (ap not
-    (has-front (concat (erase inside) (erase f)) (erased_in ls)
-    (has-front (erase inside) (erase f) inner.0)))
+    rw (has-front (concat (erase inside) (erase f)) (erased_in ls)
+    (has-front (erase inside) (erase f) inner.0))
 end_tells (at n s c (frame o p (tree (group d inside span) f)) ls) h k = refl

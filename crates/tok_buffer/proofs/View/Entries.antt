@@ -1,5 +1,5 @@
 -- Entering a visible group depends on the view alone.
-use Rattle.std.proofs.Common.{◌≡◌, ◌∙◌, sym, ap, ap₂, refl, ◌+◌, []}
+use Rattle.std.proofs.Common.{◌≡◌, ◌∙◌, sym, ap, refl, ◌+◌, []}
 use Rattle.std.proofs.Common.{Option, Some, None}
 use Rattle.std.specs.Prelude.{IfSome, option_map}
 use Rattle.tok_lexical.specs.declared.delimiter.Delimiter.{Delimiter}
@@ -75,11 +75,7 @@ module _ (g : Forest) (v : View) where
       → option_map (entered_view g) r
       ≡ option_map (entry_in_view v) (option_map entered_ahead r)
   in-view None h = refl
-  in-view (Some e) h =
-      ap₂
-      (λ x y. Some
-      (record { delimiter = e.delimiter; span = e.span; content = x; after = y })) h.0
-      (view-scope g v e.after h.1)
+  in-view (Some e) h = rw (h.0, view-scope g v e.after h.1)
 
 pub view-enter : (g : Forest) (d : Delimiter) (p : Place) → IsVisibleDelimiter d → IsIn g p
     → option_map (entered_view g) (enter d p) ≡ enter_in_view d (view g p)

@@ -1,5 +1,5 @@
 -- What single calls return, by the erased trees ahead.
-use Rattle.std.proofs.Common.{◌≡◌, ◌∙◌, ap, ap₂, refl, ℕ, ◌+◌, Bool, true, false, cond, List, []}
+use Rattle.std.proofs.Common.{◌≡◌, refl, ℕ, ◌+◌, Bool, true, false, cond, List, []}
 use Rattle.std.proofs.Common.{◌∷◌, Some, None}
 use Rattle.std.specs.Prelude.{option_map}
 use Rattle.tok_lexical.specs.declared.delimiter.Delimiter.{Delimiter}
@@ -44,10 +44,8 @@ module _ (n s c : ℕ) (o : Enclosing) (p : Forest) (d : Delimiter) (inside : Fo
         after = concat (erase f) (erased_in ls);
       })) None
   group-ahead true =
-      ap₂ (λ x y. Some (record { delimiter = d; span = span; content = x; after = y }))
-      (concat-none (erase inside))
-      (erased-leave_finished n s (c + (2 + weight inside))
-      (frame o (tree (group d inside span) p) f) ls)
+      rw (concat-none (erase inside)) (rw (erased-leave_finished n s (c + (2 + weight inside))
+      (frame o (tree (group d inside span) p) f) ls))
   group-ahead false = refl
 
 front-ahead : (d : Delimiter) (p : Place) → IsDescended p
@@ -69,8 +67,7 @@ descended-ahead : (d : Delimiter) (p : Place)
     → option_map entered_ahead (entered_of d (enter_any (descend p)))
     ≡ first_group d (erased_ahead p)
 descended-ahead d p =
-    front-ahead d (descend p) (descended-descend p)
-    ∙ ap (first_group d) (erased-descend p)
+    rw (← erased-descend p) (front-ahead d (descend p) (descended-descend p))
 
 pub tells-enter : (d : Delimiter) (p : Place) → IsVisibleDelimiter d
     → option_map entered_ahead (enter d p) ≡ first_group d (erased_ahead p)

@@ -1,5 +1,5 @@
 -- A descent keeps what entering an invisible group keeps, and leaving one.
-use Rattle.std.proofs.Common.{◌≡◌, sym, subst, ℕ, Bool, true, false, cond, ◌+◌, List, [], ◌∷◌}
+use Rattle.std.proofs.Common.{◌≡◌, ℕ, ◌+◌, List, [], ◌∷◌}
 use Rattle.std.proofs.Common.{Option, Some, None, arith, add-zero}
 use Rattle.std.specs.Prelude.{MatchOption, IfSome, unwrap_or, ⊤}
 use Rattle.std.specs.Option.{option_or}
@@ -14,6 +14,7 @@ use Rattle.tok_buffer.specs.Entry.{Entered, enter, enter_any, entered_of, same_d
 use Rattle.tok_buffer.specs.Place.{Enclosing, in_group, Frame, frame, Place, empty_place, at}
 use Rattle.tok_buffer.specs.Place.{leave_group, leave_finished}
 use Rattle.tok_buffer.specs.View.{IsVisibleDelimiter}
+use Rattle.std.proofs.lemmas.Bool.{cond_both}
 
 -- P holds inside an invisible group where it holds before it, and after the group where it holds at
 -- its end
@@ -39,7 +40,7 @@ module _ (P : Place → Type 0) (k : IsKept P) where
       → KeptAt (into_front f n s c o p ls)
       (at n s (c + weight f) (frame o (reverse_onto f p) no_trees) ls)
   kept-into_front no_trees n s c o p ls h =
-      subst (λ m. P (at n s m (frame o p no_trees) ls)) (sym (add-zero c)) h
+      rw add-zero h
   kept-into_front (tree (leaf l) f) n s c o p ls h = h
   kept-into_front (tree (group delimiter.None inside span) f) n s c o p ls h =
       let same : reverse_onto (reverse_onto inside no_trees) no_trees
@@ -58,23 +59,12 @@ module _ (P : Place → Type 0) (k : IsKept P) where
       (kept-into_front inside n s (c + 1) (in_group delimiter.None span) no_trees (frame o p f ∷ ls)
       (k.into n s c o p inside span f ls h))
       (λ past.
-      let here =
-      subst
-      (λ i. P
-      (at n s (c + 1 + weight inside + 1)
-      (frame o (tree (group delimiter.None i span) p) f) ls)) same
+      let here = rw same at
       (k.out n s (c + 1 + weight inside) (in_group delimiter.None span)
       (reverse_onto inside no_trees) (frame o p f) ls past) in
-      subst
-      (λ m. KeptAt
-      (into_front f n s (c + (2 + weight inside)) o
-      (tree (group delimiter.None inside span) p) ls)
-      (at n s m (frame o (reverse_onto f (tree (group delimiter.None inside span) p)) no_trees) ls))
-      more
+      rw more at
       (kept-into_front f n s (c + (2 + weight inside)) o (tree (group delimiter.None inside span) p)
-      ls
-      (subst (λ m. P (at n s m (frame o (tree (group delimiter.None inside span) p) f) ls))
-      sums here)))
+      ls (rw sums at here)))
   kept-into_front (tree (group d inside span) f) n s c o p ls h = h
 
   kept-unwrap : (r : Option Place) (x q : Place) → KeptAt r x → (P x → P q) → P (unwrap_or r q)
@@ -163,10 +153,13 @@ descended-descend (at n s c l ls) = descended-descend_from n s c l ls
 of-any : (P : Entered → Type 0) (d : Delimiter) (r : Option Entered) → IfSome r P
     → IfSome (entered_of d r) P
 of-any P d None h = tt
-of-any P d (Some e) h = go (same_delimiter d e.delimiter) where
-  go : (b : Bool) → IfSome (cond b (Some e) None) P
-  go true = h
-  go false = tt
+of-any P d (Some e) h =
+    cond_both (same_delimiter d e.delimiter) (Some e) None (λ r. IfSome r P) (λ _. h) (λ _. tt)
+
+pub of-entered : (P : Entered → Type 0) (d : Delimiter) (p : Place) → IfSome (enter_any p) P
+    → IfSome (enter_any (descend p)) P → IfSome (enter d p) P
+of-entered P delimiter.None p h k = of-any P delimiter.None (enter_any p) h
+of-entered P d p h k = of-any P d (enter_any (descend p)) k
 
 pub of-front : (P : Entered → Type 0) (d : Delimiter) (p : Place) → IsVisibleDelimiter d
     → IfSome (enter_any (descend p)) P → IfSome (enter d p) P

@@ -1,31 +1,29 @@
 -- Invisible groups do not matter to a single call: the proofs.
-use Rattle.std.proofs.Common.{◌≡◌, ◌∙◌, sym, ap, ap₂, subst, refl, not}
+use Rattle.std.proofs.Common.{◌≡◌, sym, refl}
 use Rattle.std.proofs.Common.{Option, Some, None, ℕ}
 use Rattle.std.specs.Prelude.{IfSome}
 use Rattle.tok_lexical.specs.declared.delimiter.Delimiter.{Delimiter}
 use Rattle.tok_lexical.specs.declared.delimiter.Delimiter.TheVariants as delimiter
 use Rattle.tok_core.specs.Erase.{erase}
-use Rattle.tok_core.specs.Filled.{has_trees}
 use Rattle.tok_core.specs.Forest.{leaf, group, Forest, no_trees, tree}
 use Rattle.tok_core.proofs.Facts.{concat-none}
 use Rattle.tok_buffer.specs.Buffer.{Laid}
 use Rattle.tok_buffer.specs.Descent.{descend}
 use Rattle.tok_buffer.specs.EachRead.{Read, First}
 use Rattle.tok_buffer.specs.Entry.{Entered, enter, enter_any}
-use Rattle.tok_buffer.specs.InFront.{first_tree_span}
 use Rattle.tok_buffer.specs.Place.{frame, Place, empty_place, at, pass, start}
 use Rattle.tok_buffer.specs.Reached.{Reached, down, past, into}
 use Rattle.tok_buffer.specs.SameView.{ViewsDecide, CallsLeadOn, ViewsTellScopes}
 use Rattle.tok_buffer.specs.SameView.{ViewsTellDelimiters, StartsAgree, ReadsAgree}
 use Rattle.tok_buffer.specs.View.{IsVisibleDelimiter, seen, view}
-use Rattle.tok_buffer.proofs.View.Entries.{enter_in_view, view-enter}
+use Rattle.tok_buffer.proofs.View.Entries.{view-enter}
 use Rattle.tok_buffer.proofs.View.InFront.{ahead_tells_ends}
 use Rattle.tok_buffer.proofs.View.Keeps.{of-front}
 use Rattle.tok_buffer.proofs.View.Marks.{after-start}
 use Rattle.tok_buffer.proofs.View.Moves.{Leads, leads, leads-skip}
 use Rattle.tok_buffer.proofs.View.Places.{reached_stands}
 use Rattle.tok_buffer.proofs.View.Readings.{Reading, each_read}
-use Rattle.tok_buffer.proofs.View.ReadViews.{in_view, skip_in_view, view-reading, view-skip}
+use Rattle.tok_buffer.proofs.View.ReadViews.{view-reading, view-skip}
 use Rattle.tok_buffer.proofs.View.Spans.{leftover_tells}
 use Rattle.tok_buffer.proofs.View.Standing.{scope-view}
 use Rattle.tok_buffer.proofs.View.Tells.{same_trees}
@@ -33,7 +31,7 @@ use Rattle.tok_buffer.proofs.View.Tells.{same_trees}
 pub read-same : {read : Read} {first : First} → Reading read first → (f g : Forest) (p q : Place)
     → view f p ≡ view g q → ReadsAgree f g read p q
 read-same {read} {first} r f g p q e =
-    view-reading f r p ∙ ap (in_view first) e ∙ sym (view-reading g r q)
+    cc (view-reading f r p, view-reading g r q)
 
 pub views_decide : ViewsDecide
 views_decide b c p q s =
@@ -42,15 +40,15 @@ views_decide b c p q s =
     let trees = same_trees f g p q s.same in
     record {
       leaves = each_read _ (λ read first r. read-same r f g p q s.same);
-      skips = view-skip f p ∙ ap skip_in_view s.same ∙ sym (view-skip g q);
+      skips = cc (view-skip f p, view-skip g q, s.same);
       ends =
-          ahead_tells_ends b s.left_filled p s.left ∙ ap (λ x. not (has_trees x)) trees
-          ∙ sym (ahead_tells_ends c s.right_filled q s.right);
+          rw (ahead_tells_ends b s.left_filled p s.left, trees)
+          (sym (ahead_tells_ends c s.right_filled q s.right));
       enters = λ d v.
-          view-enter f d p v (reached_stands b s.left_filled p s.left).holds.inside
-          ∙ ap (enter_in_view d) s.same
-          ∙ sym (view-enter g d q v (reached_stands c s.right_filled q s.right).holds.inside);
-      leftovers = leftover_tells p ∙ ap first_tree_span trees ∙ sym (leftover_tells q);
+          let left = view-enter f d p v (reached_stands b s.left_filled p s.left).holds.inside in
+          let right = view-enter g d q v (reached_stands c s.right_filled q s.right).holds.inside in
+          cc (s.same);
+      leftovers = cc (leftover_tells p, leftover_tells q);
     }
 
 pub views_tell_scopes : ViewsTellScopes
@@ -62,11 +60,11 @@ views_tell_delimiters f empty_place = refl
 views_tell_delimiters f (at n s c l ls) = refl
 
 view-start : (n : ℕ) (f : Forest) → view f (start n f) ≡ seen 0 delimiter.None (erase f)
-view-start n f = ap₂ (λ k e. seen k delimiter.None e) (after-start f) (concat-none (erase f))
+view-start n f = rw (after-start f, concat-none (erase f))
 
 pub starts_agree : StartsAgree
 starts_agree b c e =
-    view-start b.number b.forest ∙ ap (seen 0 delimiter.None) e ∙ sym (view-start c.number c.forest)
+    cc (view-start b.number b.forest, view-start c.number c.forest)
 
 -- The places after each call are reached.
 module _ (b : Laid) where
@@ -92,7 +90,7 @@ module _ (b : Laid) where
       go : (r : Option Entered) → enter d p ≡ r → IfSome r (λ e. e.after ≡ pass (descend p))
           → IfSome r BothReached
       go None e k = tt
-      go (Some x) e k = (into d p x v e h, subst (Reached b) (sym k) (past (descend p) (down p h)))
+      go (Some x) e k = (into d p x v e h, rw k (past (descend p) (down p h)))
 
 pub calls_lead_on : CallsLeadOn
 calls_lead_on b p h =

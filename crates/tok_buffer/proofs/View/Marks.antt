@@ -1,5 +1,5 @@
 -- What is ahead of a place, and what comes after its scope, among the marks of the forest.
-use Rattle.std.proofs.Common.{◌≡◌, ◌∙◌, sym, ap, refl, ℕ, zero, suc, ◌+◌, List, [], ◌∷◌, ◌++◌}
+use Rattle.std.proofs.Common.{◌≡◌, ◌∙◌, ap, refl, ℕ, zero, suc, ◌+◌, List, [], ◌∷◌, ◌++◌}
 use Rattle.std.proofs.Common.{length, drop, sum, arith, add-one, append_assoc, append-nil}
 use Rattle.std.proofs.Common.{length-append, drop-drop, drop_at, le_of_eq}
 use Rattle.std.specs.Prelude.{⊤}
@@ -30,48 +30,25 @@ pub sum-marks : (f : Forest) → sum (visible_marks f) ≡ weight (erase f)
 sum-marks no_trees = refl
 sum-marks (tree (leaf l) f) = omega (arith, sum-marks f, sum-one (visible_marks f))
 sum-marks (tree (group delimiter.None inside span) f) =
-    omega (
-      arith,
-      sum-marks inside,
-      sum-marks f,
-      sum-append (visible_marks inside) (0 ∷ visible_marks f),
-      weight-concat (erase inside) (erase f),
-    )
+    omega (arith, sum-marks inside, sum-marks f, sum-append, weight-concat)
 sum-marks (tree (group d inside span) f) =
-    omega (
-      arith,
-      sum-marks inside,
-      sum-marks f,
-      sum-append (visible_marks inside) (1 ∷ visible_marks f),
-      sum-one (visible_marks f),
-      sum-one (visible_marks inside ++ (1 ∷ visible_marks f)),
-    )
+    omega (arith, sum-marks inside, sum-marks f, sum-append, sum-one)
 
 pub length-marks : (f : Forest) → length (visible_marks f) ≡ weight f
 length-marks no_trees = refl
 length-marks (tree (leaf l) f) = omega (arith, length-marks f)
 length-marks (tree (group delimiter.None inside span) f) =
-    omega (
-      arith,
-      length-marks inside,
-      length-marks f,
-      length-append (visible_marks inside) (0 ∷ visible_marks f),
-    )
+    omega (arith, length-marks inside, length-marks f, length-append {A = ℕ})
 length-marks (tree (group d inside span) f) =
-    omega (
-      arith,
-      length-marks inside,
-      length-marks f,
-      length-append (visible_marks inside) (1 ∷ visible_marks f),
-    )
+    omega (arith, length-marks inside, length-marks f, length-append {A = ℕ})
 
 pub marks-tree : (t : Tree) (a : Forest)
     → visible_marks (tree t a) ≡ visible_marks (tree t no_trees) ++ visible_marks a
 marks-tree (leaf l) a = refl
 marks-tree (group delimiter.None inside span) a =
-    ap (λ xs. 0 ∷ xs) (sym (append_assoc (visible_marks inside) (0 ∷ []) (visible_marks a)))
+    rw (append_assoc (visible_marks inside) (0 ∷ []) (visible_marks a))
 marks-tree (group d inside span) a =
-    ap (λ xs. 1 ∷ xs) (sym (append_assoc (visible_marks inside) (1 ∷ []) (visible_marks a)))
+    rw (append_assoc (visible_marks inside) (1 ∷ []) (visible_marks a))
 
 pub marks-group : (d : Delimiter) → IsVisibleDelimiter d → (inside : Forest) (span : Span)
     (a : Forest) → visible_marks (tree (group d inside span) a)
@@ -87,13 +64,7 @@ marks_beyond (frame o p a ∷ ls) = 0 ∷ (visible_marks a ++ marks_beyond ls)
 sum-beyond : (ls : List Frame) → sum (marks_beyond ls) ≡ weight (erased_in ls)
 sum-beyond [] = refl
 sum-beyond (frame o p a ∷ ls) =
-    omega (
-      arith,
-      sum-append (visible_marks a) (marks_beyond ls),
-      sum-marks a,
-      sum-beyond ls,
-      weight-concat (erase a) (erased_in ls),
-    )
+    omega (arith, sum-append, sum-marks a, sum-beyond ls, weight-concat)
 
 drop_next : (c : ℕ) (xs : List ℕ) (x : ℕ) (ys : List ℕ) → drop c xs ≡ x ∷ ys
     → drop (c + 1) xs ≡ ys
@@ -106,7 +77,7 @@ drop_next c xs x ys e = rw add-one (go c xs e) where
 
 pub drop_past : (c k : ℕ) (xs ys zs : List ℕ) → drop c xs ≡ ys ++ zs → length ys ≡ k
     → drop (c + k) xs ≡ zs
-drop_past c k xs ys zs e h = sym (drop-drop k c xs) ∙ ap (drop k) e ∙ drop_at ys zs k h
+drop_past c k xs ys zs e h = cc (drop-drop k c xs, drop_at ys zs k h)
 
 module _ (g : Forest) where
   -- after the place's count comes what it has ahead, and then what comes after the scope
@@ -128,16 +99,12 @@ module _ (g : Forest) where
   moved-in = record {
     kept = record {
       into = λ n s c o p inside span f ls h.
-          drop_next c (visible_marks g) 0 _ h
-          ∙ append_assoc (visible_marks inside) (0 ∷ visible_marks f) _
-          ∙ ap (λ xs. visible_marks inside ++ (0 ∷ xs))
-          (sym (append_assoc (visible_marks f) (marks_beyond ls) _));
+          drop_next c (visible_marks g) 0 _ h ∙ simp append_assoc;
       out = λ n s c o p l ls h. in-leave_group n s c o p l ls h;
     };
     past = λ n s c o p t a ls h.
         drop_past c (tree_weight t) (visible_marks g) (visible_marks (tree t no_trees)) _
-        (h ∙ ap (λ xs. xs ++ (marks_beyond ls ++ drop s (visible_marks g))) (marks-tree t a)
-        ∙ append_assoc (visible_marks (tree t no_trees)) (visible_marks a) _)
+        (rw (marks-tree t a, append_assoc) at h)
         (omega (arith, length-marks (tree t no_trees)));
   }
 
@@ -146,10 +113,10 @@ module _ (g : Forest) where
 
   pub in-start : (n : ℕ) → IsIn (start n g)
   in-start n =
-      sym (append-nil (visible_marks g)) ∙ ap (λ xs. visible_marks g ++ xs) (sym nothing_after)
+      rw (nothing_after, append-nil)
 
   pub after-start : visible_after g (weight g) ≡ 0
-  after-start = ap sum nothing_after
+  after-start = rw nothing_after
 
   -- at a visible group: what comes after its opening, and from its closing on
   module _ (n s c : ℕ) (o : Enclosing) (p : Forest) (d : Delimiter) (v : IsVisibleDelimiter d)
@@ -159,10 +126,7 @@ module _ (g : Forest) where
         ≡ visible_marks inside
         ++ (1 ∷ (visible_marks a ++ (marks_beyond ls ++ drop s (visible_marks g))))
     opened =
-        drop_next c (visible_marks g) 1 _
-        (h
-        ∙ ap (λ xs. xs ++ (marks_beyond ls ++ drop s (visible_marks g)))
-        (marks-group d v inside span a))
+        drop_next c (visible_marks g) 1 _ (rw (marks-group d v inside span a) at h)
         ∙ append_assoc (visible_marks inside) (1 ∷ visible_marks a) _
 
     pub closes : drop (c + 1 + weight inside) (visible_marks g)
@@ -173,20 +137,10 @@ module _ (g : Forest) where
 
     pub in-content : IsIn
         (at n (c + 1 + weight inside) (c + 1) (frame (in_group d span) no_trees inside) [])
-    in-content = opened ∙ ap (λ xs. visible_marks inside ++ xs) (sym closes)
+    in-content = rw closes opened
 
     -- after the content's scope come its closing, what is ahead, and what comes after the scope
     pub after-content : visible_after g (c + 1 + weight inside)
         ≡ 1 + weight (concat (erase a) (erased_in ls)) + visible_after g s
     after-content =
-        let rest = marks_beyond ls ++ drop s (visible_marks g) in
-        omega (
-          arith,
-          ap sum closes,
-          sum-one (visible_marks a ++ rest),
-          sum-append (visible_marks a) rest,
-          sum-append (marks_beyond ls) (drop s (visible_marks g)),
-          sum-marks a,
-          sum-beyond ls,
-          weight-concat (erase a) (erased_in ls),
-        )
+        omega (arith, ap sum closes, sum-one, sum-append, sum-marks, sum-beyond, weight-concat)

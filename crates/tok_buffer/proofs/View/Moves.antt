@@ -1,8 +1,8 @@
 -- What every move keeps: a descent, passing a tree, and so each read.
-use Rattle.std.proofs.Common.{◌≡◌, refl, ℕ, ◌+◌, Bool, true, false, cond, List, [], ◌∷◌, ◌++◌}
+use Rattle.std.proofs.Common.{◌≡◌, refl, arith, ℕ, ◌+◌, ◌<◌, Bool, cond, List, [], ◌∷◌, ◌++◌}
 use Rattle.std.proofs.Common.{Option, Some, None}
 use Rattle.std.specs.Prelude.{⊤, IfSome}
-use Rattle.tok_core.specs.Forest.{Tree, Forest, no_trees, tree}
+use Rattle.tok_core.specs.Forest.{Tree, leaf, group, Forest, no_trees, tree}
 use Rattle.tok_core.specs.Weight.{tree_weight}
 use Rattle.tok_buffer.specs.Descent.{descend}
 use Rattle.tok_buffer.specs.EachRead.{Read, First}
@@ -11,6 +11,8 @@ use Rattle.tok_buffer.specs.Reads.{read_if, read_then, place_after, read_tree, r
 use Rattle.tok_buffer.specs.Reads.{any_text, any_tree, skip}
 use Rattle.tok_buffer.proofs.View.Keeps.{IsKept, kept-leave_finished}
 use Rattle.tok_buffer.proofs.View.Readings.{Reading, one, more, never, of_lifetime}
+use Rattle.std.proofs.lemmas.Bool.{cond_both}
+use Rattle.std.proofs.lemmas.Option.{some_pair_parts}
 
 -- P holds after the front tree, too
 pub record IsMoved (P : Place → Type 0) : Type 0 where
@@ -26,6 +28,18 @@ moved-pass P m (at n s c (frame o p (tree t f)) ls) h =
     kept-leave_finished P m.kept n s (c + tree_weight t) (frame o (tree t p) f) ls
     (m.past n s c o p t f ls h)
 
+-- a tree counts at least one
+pub some_weight : (t : Tree) → 0 < tree_weight t
+some_weight (leaf l) = omega arith
+some_weight (group d inside span) = omega arith
+
+-- two reads of one tree that are equal
+pub read_parts : (t u : Tree) (q r : Place)
+    → ◌≡◌ {A = Option (List Tree × Place)} (Some (t ∷ [], q)) (Some (u ∷ [], r))
+    → (t ≡ u) × (q ≡ r)
+read_parts t u q r e =
+    let (trees, same) = some_pair_parts (t ∷ []) (u ∷ []) q r e in (cc, same)
+
 -- A descent keeps P, and passing a tree leads from P to Q: so each read leads from P to Q.
 pub record Leads (P Q : Place → Type 0) : Type 0 where
   pub down : (p : Place) → P p → P (descend p)
@@ -39,17 +53,14 @@ abbrev pub LeadsAfter : (Place → Type 0) → Option Place → Type 0
 LeadsAfter Q r = IfSome r Q
 
 module _ (P Q : Place → Type 0) (m : Leads P Q) where
-  leads-wanted : (b : Bool) (ts : List Tree) (q : Place) → Q q
-      → LeadsTo Q (cond b (Some (ts, q)) None)
-  leads-wanted true ts q h = h
-  leads-wanted false ts q h = tt
-
   pub leads-take : (wanted : Tree → Bool) (p : Place) → P p → LeadsTo Q (read_if wanted p)
   leads-take wanted p h = go (front p) refl where
     go : (o : Option Tree) → front p ≡ o
         → LeadsTo Q (elim o [ Some t ↦ cond (wanted t) (Some (t ∷ [], pass p)) None | None ↦ None ])
     go None e = tt
-    go (Some t) e = leads-wanted (wanted t) (t ∷ []) (pass p) (m.past p t e h)
+    go (Some t) e =
+        cond_both (wanted t) (Some (t ∷ [], pass p)) None (LeadsTo Q) (λ _. m.past p t e h)
+        (λ _. tt)
 
   leads-leaf : (wanted : Tree → Bool) (p : Place) → P p → LeadsTo Q (read_if wanted (descend p))
   leads-leaf wanted p h = leads-take wanted (descend p) (m.down p h)

@@ -23,7 +23,7 @@ module _ (g : Forest) where
   read-inside : (v : View) (x : Option (List Tree × Place)) → LeadsTo (HasScope g v) x
       → with_view g x ≡ option_map (λ r. (r.0, in_scope v r.1)) (with_ahead x)
   read-inside v None h = refl
-  read-inside v (Some r) h = ap (λ w. Some (r.0, w)) (view-scope g v r.1 h)
+  read-inside v (Some r) h = rw (view-scope g v r.1 h)
 
   pub view-reading : {read : Read} {first : First} → Reading read first → (p : Place)
       → with_view g (read p) ≡ in_view first (view g p)
@@ -35,7 +35,7 @@ module _ (g : Forest) where
   place-inside : (v : View) (x : Option Place) → LeadsAfter (HasScope g v) x
       → option_map (view g) x ≡ option_map (in_scope v) (option_map erased_ahead x)
   place-inside v None h = refl
-  place-inside v (Some q) h = ap Some (view-scope g v q h)
+  place-inside v (Some q) h = rw (view-scope g v q h)
 
   pub view-skip : (p : Place) → option_map (view g) (skip p) ≡ skip_in_view (view g p)
   view-skip p =

@@ -1,24 +1,17 @@
 -- Scopes of one forest differ in what is visible after them.
-use Rattle.std.proofs.Common.{◌≡◌, ◌∙◌, sym, ap, refl, ℕ, zero, suc, ◌+◌, ◌-◌, ◌<◌, ◌≤◌, ◌⊎◌, inl}
-use Rattle.std.proofs.Common.{inr, ⊎_elim, List, ◌∷◌, length, drop, sum, arith, drop-drop}
+use Rattle.std.proofs.Common.{◌≡◌, ◌∙◌, ap, ℕ, suc, ◌+◌, ◌-◌, ◌<◌, ◌≤◌, ◌⊎◌, inl}
+use Rattle.std.proofs.Common.{inr, List, ◌∷◌, length, drop, sum, arith, drop-drop}
 use Rattle.std.proofs.Common.{length-drop}
 use Rattle.std.proofs.lemmas.List.Sums.{sum_by-take-drop}
 use Rattle.tok_core.specs.Forest.{Forest}
 use Rattle.tok_buffer.specs.View.{visible_after, visible_marks}
 use Rattle.tok_buffer.proofs.View.Marks.{sum-one}
+use Rattle.std.proofs.lemmas.Bool.{cases_order}
 
 -- a scope ends where the whole forest does, or at the closing of a visible group
 abbrev pub IsScopeEnd : Forest → ℕ → Type 0
 IsScopeEnd g s =
     (s ≡ length (visible_marks g)) ⊎ ((rest : List ℕ) × (drop s (visible_marks g) ≡ 1 ∷ rest))
-
-three : (a b : ℕ) → (a < b) ⊎ ((a ≡ b) ⊎ (b < a))
-three zero zero = inr (inl refl)
-three zero (suc b) = inl (omega arith)
-three (suc a) zero = inr (inr (omega arith))
-three (suc a) (suc b) =
-    ⊎_elim (λ h. inl (omega arith))
-    (⊎_elim (λ h. inr (inl (ap suc h))) (λ h. inr (inr (omega arith)))) (three a b)
 
 module _ (g : Forest) where
   within : (s : ℕ) → IsScopeEnd g s → s ≤ length (visible_marks g)
@@ -33,16 +26,15 @@ module _ (g : Forest) where
       let k = t - s - 1 in
       let split : s + suc k ≡ t = omega arith in
       let later : visible_after g t ≡ sum (drop k r.0) =
-      ap (visible_after g) (sym split)
-      ∙ ap sum (sym (drop-drop (suc k) s (visible_marks g)) ∙ ap (drop (suc k)) r.1) in
+      cc (split, drop-drop (suc k) s (visible_marks g), r.1) in
       let here = ap sum r.1 ∙ sum-one r.0 in
       let parts = sum_by-take-drop (λ x. x) r.0 k in omega arith
 
   pub same_end : (s t : ℕ) → IsScopeEnd g s → IsScopeEnd g t
       → visible_after g s ≡ visible_after g t → s ≡ t
   same_end s t a b e =
-      elim (three s t) [
-        | inl less ↦ let more = falls s t a b less in absurd (omega arith)
-        | inr (inl same) ↦ same
+      elim (cases_order s t) [
+        | inl same ↦ same
+        | inr (inl less) ↦ let more = falls s t a b less in absurd (omega arith)
         | inr (inr less) ↦ let more = falls t s b a less in absurd (omega arith)
       ]

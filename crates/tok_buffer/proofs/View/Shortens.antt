@@ -1,5 +1,5 @@
 -- Each read leaves fewer trees ahead.
-use Rattle.std.proofs.Common.{◌≡◌, sym, subst, ◌+◌, ◌≤◌, Bool, true, false, cond, List, [], ◌∷◌}
+use Rattle.std.proofs.Common.{◌≡◌, ◌+◌, ◌≤◌, Bool, List, [], ◌∷◌}
 use Rattle.std.proofs.Common.{◌++◌, length, Option, Some, None, arith}
 use Rattle.std.specs.Prelude.{IfSome}
 use Rattle.tok_core.specs.Forest.{Tree, Forest, no_trees, tree}
@@ -11,16 +11,15 @@ use Rattle.tok_buffer.specs.View.{erased_ahead}
 use Rattle.tok_buffer.proofs.View.Tells.{tells}
 use Rattle.tok_buffer.proofs.View.Spans.{tree_count, length_ahead}
 use Rattle.tok_buffer.proofs.View.Readings.{Reading, never, one, more}
+use Rattle.std.proofs.lemmas.Bool.{cond_both}
 
 abbrev Shortens : Forest → Option (List Tree × Forest) → Type 0
 Shortens f r = IfSome r (λ x. tree_count x.1 + 1 ≤ tree_count f)
 
 shortens-if : (wanted : Tree → Bool) (f : Forest) → Shortens f (first_if wanted f)
 shortens-if wanted no_trees = tt
-shortens-if wanted (tree t f) = go (wanted t) where
-  go : (b : Bool) → Shortens (tree t f) (cond b (Some (t ∷ [], f)) None)
-  go true = omega arith
-  go false = tt
+shortens-if wanted (tree t f) =
+    cond_both (wanted t) (Some (t ∷ [], f)) None (Shortens (tree t f)) (λ _. omega arith) (λ _. tt)
 
 shortens-then : (f : Forest) (r : Option (List Tree × Forest)) (h : First) → Shortens f r
     → ((g : Forest) → Shortens g (h g)) → Shortens f (and_first r h)
@@ -46,6 +45,5 @@ fewer {read} {first} r p = go (read p) (tells r p) where
   go : (x : Option (List Tree × Place)) → with_ahead x ≡ first (erased_ahead p) → LeavesFewer p x
   go None e = tt
   go (Some x) e =
-      let s : Shortens (erased_ahead p) (Some (x.0, erased_ahead x.1)) =
-      subst (Shortens (erased_ahead p)) (sym e) (shortens r (erased_ahead p)) in
+      let s = rw (← e) at (shortens r (erased_ahead p)) in
       omega (arith, s, length_ahead p, length_ahead x.1)

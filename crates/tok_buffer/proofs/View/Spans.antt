@@ -1,5 +1,5 @@
 -- The spans of the visible trees ahead, and so how many they are, and the leftover's span.
-use Rattle.std.proofs.Common.{◌≡◌, ◌∙◌, sym, ap, ap₂, refl, ℕ, Bool, true, false, List, [], ◌∷◌}
+use Rattle.std.proofs.Common.{◌≡◌, refl, ℕ, Bool, true, false, List, [], ◌∷◌}
 use Rattle.std.proofs.Common.{◌++◌, length, map, Option, Some, None}
 use Rattle.std.proofs.lemmas.List.{length-map, map-append}
 use Rattle.std.specs.Prelude.{option_map}
@@ -25,23 +25,19 @@ span_list ts = map (λ t. tree_span t.1) ts
 
 spans-concat : (f g : Forest) → spans_of (concat f g) ≡ spans_of f ++ spans_of g
 spans-concat no_trees g = refl
-spans-concat (tree t f) g = ap (λ xs. tree_span t ∷ xs) (spans-concat f g)
+spans-concat (tree t f) g = rw (spans-concat f g)
 
 spans-visible : (b : Bool) (f : Forest) → span_list (visible b f) ≡ spans_of (erase f)
 spans-visible b no_trees = refl
-spans-visible b (tree (leaf l) f) = ap (λ xs. tree_span (leaf l) ∷ xs) (spans-visible b f)
+spans-visible b (tree (leaf l) f) = rw (spans-visible b f)
 spans-visible b (tree (group delimiter.None inside span) f) =
-    map-append (λ t. tree_span t.1) (visible true inside) (visible b f)
-    ∙ ap₂ (λ x y. x ++ y) (spans-visible true inside) (spans-visible b f)
-    ∙ sym (spans-concat (erase inside) (erase f))
-spans-visible b (tree (group d inside span) f) = ap (λ xs. span ∷ xs) (spans-visible b f)
+    rw (map-append, spans-visible true inside, spans-visible b f, spans-concat)
+spans-visible b (tree (group d inside span) f) = rw (spans-visible b f)
 
 spans-frames : (ls : List Frame) → span_list (ahead_in ls) ≡ spans_of (erased_in ls)
 spans-frames [] = refl
 spans-frames (frame o p a ∷ ls) =
-    map-append (λ t. tree_span t.1) (visible false a) (ahead_in ls)
-    ∙ ap₂ (λ x y. x ++ y) (spans-visible false a) (spans-frames ls)
-    ∙ sym (spans-concat (erase a) (erased_in ls))
+    rw (map-append, spans-visible false a, spans-frames ls, spans-concat)
 
 spans-ahead : (p : Place) → span_list (marked_ahead p) ≡ spans_of (erased_ahead p)
 spans-ahead empty_place = refl
@@ -51,12 +47,12 @@ abbrev pub tree_count : Forest → ℕ
 tree_count f = length (spans_of f)
 
 pub length_ahead : (p : Place) → length (marked_ahead p) ≡ tree_count (erased_ahead p)
-length_ahead p = sym (length-map (marked_ahead p) (λ t. tree_span t.1)) ∙ ap length (spans-ahead p)
+length_ahead p = cc (length-map (marked_ahead p) (λ t. tree_span t.1), spans-ahead p)
 
 pub same_length : (f g : Forest) (p q : Place) → view f p ≡ view g q
     → length (marked_ahead p) ≡ length (marked_ahead q)
 same_length f g p q e =
-    length_ahead p ∙ ap tree_count (same_trees f g p q e) ∙ sym (length_ahead q)
+    cc (length_ahead p, same_trees f g p q e, length_ahead q)
 
 abbrev first_span : List Span → Option Span
 first_span [] = None
@@ -73,5 +69,4 @@ first-span (tree t f) = refl
 
 pub leftover_tells : (p : Place) → leftover_span p ≡ first_tree_span (erased_ahead p)
 leftover_tells p =
-    left-span (scope_delimiter p) (marked_ahead p) ∙ ap first_span (spans-ahead p)
-    ∙ first-span (erased_ahead p)
+    cc (left-span (scope_delimiter p) (marked_ahead p), spans-ahead p, first-span (erased_ahead p))

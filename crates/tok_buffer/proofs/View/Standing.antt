@@ -39,7 +39,7 @@ pub record Stands (number : ℕ) (f : Forest) (p : Place) : Type 0 where
 
 -- Each move keeps these.
 filled-past : (t : Tree) (a : Forest) → filled (tree t a) ≡ true → filled a ≡ true
-filled-past t a h = (and_parts (filled (tree t no_trees)) (filled a) (sym (filled_tree t a) ∙ h)).1
+filled-past t a h = (and_parts (filled (tree t no_trees)) (filled a) (rw filled_tree at h)).1
 
 filled-content : (e : Delimiter) → IsVisibleDelimiter e → (inside : Forest) (span : Span)
     (a : Forest) → filled (tree (group e inside span) a) ≡ true → filled inside ≡ true

@@ -1,5 +1,5 @@
 -- What a read takes, and a skip passes, of the erased trees ahead.
-use Rattle.std.proofs.Common.{◌≡◌, ◌∙◌, sym, ap, refl, ◌+◌, Bool, true, false, cond, List, []}
+use Rattle.std.proofs.Common.{◌≡◌, ap, refl, ◌+◌, Bool, List, []}
 use Rattle.std.proofs.Common.{◌∷◌, ◌++◌, Option, Some, None}
 use Rattle.std.specs.Prelude.{option_map}
 use Rattle.tok_lexical.specs.declared.delimiter.Delimiter.TheVariants as delimiter
@@ -10,7 +10,7 @@ use Rattle.tok_core.specs.Weight.{weight}
 use Rattle.tok_buffer.specs.Descent.{descend}
 use Rattle.tok_buffer.specs.EachRead.{Read, First, first_if, and_first}
 use Rattle.tok_buffer.specs.InFront.{with_ahead}
-use Rattle.tok_buffer.specs.Place.{frame, Place, empty_place, at, pass}
+use Rattle.tok_buffer.specs.Place.{frame, Place, empty_place, at}
 use Rattle.tok_buffer.specs.Reads.{read_if, read_then, any_text, is_ident_of, place_after, read_tree}
 use Rattle.tok_buffer.specs.Reads.{read_lifetime, skip}
 use Rattle.tok_buffer.specs.View.{erased_ahead, View, empty_view, seen, view}
@@ -18,6 +18,8 @@ use Rattle.tok_buffer.proofs.View.Erased.{erased-descend, erased-leave_finished}
 use Rattle.tok_buffer.proofs.View.Keeps.{IsDescended, descended-descend}
 use Rattle.tok_buffer.proofs.View.Readings.{Reading, never, one, more, IsOfLeaves}
 use Rattle.tok_buffer.proofs.View.Readings.{of_lifetime}
+use Rattle.std.proofs.Common.{inl, inr}
+use Rattle.std.proofs.lemmas.Bool.{cases_Bool}
 
 -- the trees of a view
 abbrev pub trees_of : View → Forest
@@ -30,44 +32,33 @@ trees-view g (at n s c l ls) = refl
 
 pub same_trees : (f g : Forest) (p q : Place) → view f p ≡ view g q
     → erased_ahead p ≡ erased_ahead q
-same_trees f g p q e = trees-view f p ∙ ap trees_of e ∙ sym (trees-view g q)
+same_trees f g p q e = cc (trees-view f p, trees-view g q)
 
 -- the front tree, at the end of a descent
-tells-wanted : (b : Bool) (t : Tree) (p : Place) (f : Forest) → erased_ahead p ≡ f
-    → with_ahead (cond b (Some (t ∷ [], p)) None) ≡ cond b (Some (t ∷ [], f)) None
-tells-wanted true t p f e = ap (λ g. Some (t ∷ [], g)) e
-tells-wanted false t p f e = refl
-
-cond_none : {A : Type 0} (b : Bool) (x : Option A) → b ≡ false → cond b x None ≡ None
-cond_none b x e = ap (λ c. cond c x None) e
-
 tells-take : (wanted : Tree → Bool) → IsOfLeaves wanted → (p : Place) → IsDescended p
     → with_ahead (read_if wanted p) ≡ first_if wanted (erased_ahead p)
 tells-take wanted leaves empty_place h = refl
 tells-take wanted leaves (at n s c (frame o p (tree (leaf l) a)) ls) h =
-    tells-wanted (wanted (leaf l)) (leaf l) (pass (at n s c (frame o p (tree (leaf l) a)) ls))
-    (erased_ahead (at n s c (frame o p a) ls))
-    (erased-leave_finished n s (c + 1) (frame o (tree (leaf l) p) a) ls)
+    let same = erased-leave_finished n s (c + 1) (frame o (tree (leaf l) p) a) ls in
+    elim (cases_Bool (wanted (leaf l))) [ inl e ↦ simp e (cc) | inr e ↦ simp e ]
 tells-take wanted leaves (at n s c (frame o p (tree (group delimiter.None inside span) a)) ls) h =
     absurd h
 tells-take wanted leaves (at n s c (frame o p (tree (group d inside span) a)) ls) h =
-    ap with_ahead (cond_none (wanted (group d inside span)) _ (leaves d inside span))
-    ∙ sym (cond_none (wanted (group d (erase inside) span)) _ (leaves d (erase inside) span))
+    simp (leaves d inside span, leaves d (erase inside) span)
 tells-take wanted leaves (at n s c (frame o p no_trees) []) h = refl
 tells-take wanted leaves (at n s c (frame o p no_trees) (l ∷ ls)) h = absurd h
 
 tells-one : (wanted : Tree → Bool) → IsOfLeaves wanted → (p : Place)
     → with_ahead (read_if wanted (descend p)) ≡ first_if wanted (erased_ahead p)
 tells-one wanted leaves p =
-    tells-take wanted leaves (descend p) (descended-descend p)
-    ∙ ap (first_if wanted) (erased-descend p)
+    rw (← erased-descend p) (tells-take wanted leaves (descend p) (descended-descend p))
 
 tells-more : (ts : List Tree) (r : Option (List Tree × Place)) (v : Option (List Tree × Forest))
     → with_ahead r ≡ v
     → with_ahead (elim r [ Some q ↦ Some (ts ++ q.0, q.1) | None ↦ None ])
     ≡ elim v [ Some q ↦ Some (ts ++ q.0, q.1) | None ↦ None ]
-tells-more ts None v e = ap (λ w. elim w [ Some q ↦ Some (ts ++ q.0, q.1) | None ↦ None ]) e
-tells-more ts (Some r) v e = ap (λ w. elim w [ Some q ↦ Some (ts ++ q.0, q.1) | None ↦ None ]) e
+tells-more ts None v e = rw (← e)
+tells-more ts (Some r) v e = rw (← e)
 
 tells-then : (r : Option (List Tree × Place)) (g : Read) (h : First)
     → ((p : Place) → with_ahead (g p) ≡ h (erased_ahead p))
@@ -81,8 +72,7 @@ pub tells : {read : Read} {first : First} → Reading read first → (p : Place)
 tells never p = refl
 tells (one wanted leaves) p = tells-one wanted leaves p
 tells (more wanted leaves g h r) p =
-    tells-then (read_if wanted (descend p)) g h (tells r)
-    ∙ ap (λ x. and_first x h) (tells-one wanted leaves p)
+    rw (← tells-one wanted leaves p) (tells-then (read_if wanted (descend p)) g h (tells r))
 
 -- what is ahead after a skip: after a lifetime, or else after the front tree
 abbrev pub past_front : Forest → Option Forest
@@ -114,13 +104,12 @@ either-tells : (x : Option (List Tree × Place)) (y : Option Place)
     → option_map erased_ahead y ≡ w
     → option_map erased_ahead (elim x [ Some r ↦ Some r.1 | None ↦ y ])
     ≡ elim v [ Some r ↦ Some r.1 | None ↦ w ]
-either-tells None y v w e k = k ∙ ap (λ z. elim z [ Some r ↦ Some r.1 | None ↦ w ]) e
-either-tells (Some r) y v w e k = ap (λ z. elim z [ Some q ↦ Some q.1 | None ↦ w ]) e
+either-tells None y v w e k = rw (← e) k
+either-tells (Some r) y v w e k = rw (← e)
 
 pub skip_tells : (p : Place) → option_map erased_ahead (skip p) ≡ past_first (erased_ahead p)
 skip_tells p =
     either-tells (read_lifetime any_text p) (place_after (read_tree (descend p)))
     (and_first (first_if is_joint_apostrophe (erased_ahead p)) (first_if (is_ident_of any_text)))
     (past_front (erased_ahead p)) (tells (of_lifetime any_text) p)
-    (front-tells (descend p) (descended-descend p)
-    ∙ ap past_front (erased-descend p))
+    (rw (← erased-descend p) (front-tells (descend p) (descended-descend p)))

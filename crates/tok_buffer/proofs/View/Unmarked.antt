@@ -1,5 +1,5 @@
 -- The visible trees ahead as a forest.
-use Rattle.std.proofs.Common.{◌≡◌, ◌∙◌, sym, ap, refl, ℕ, Bool, true, false, List, []}
+use Rattle.std.proofs.Common.{◌≡◌, ◌∙◌, sym, refl, ℕ, Bool, true, false, List, []}
 use Rattle.std.proofs.Common.{◌∷◌, ◌++◌, map}
 use Rattle.tok_lexical.specs.declared.delimiter.Delimiter.TheVariants as delimiter
 use Rattle.tok_core.specs.Forest.{Tree, leaf, group, Forest, no_trees, tree, forest, concat}
@@ -59,23 +59,19 @@ plain ts = forest (map (λ t. t.1) ts)
 
 plain-append : (ts us : List (Bool × Tree)) → plain (ts ++ us) ≡ concat (plain ts) (plain us)
 plain-append [] us = refl
-plain-append (t ∷ ts) us = ap (tree t.1) (plain-append ts us)
+plain-append (t ∷ ts) us = rw (plain-append ts us)
 
 plain-visible : (b : Bool) (f : Forest) → plain (visible b f) ≡ unmarked f
 plain-visible b no_trees = refl
-plain-visible b (tree (leaf l) f) = ap (tree (leaf l)) (plain-visible b f)
+plain-visible b (tree (leaf l) f) = rw (plain-visible b f)
 plain-visible b (tree (group delimiter.None inside span) f) =
-    plain-append (visible true inside) (visible b f)
-    ∙ ap (λ g. concat g (plain (visible b f))) (plain-visible true inside)
-    ∙ ap (concat (unmarked inside)) (plain-visible b f)
-plain-visible b (tree (group d inside span) f) = ap (tree (group d inside span)) (plain-visible b f)
+    rw (plain-append, plain-visible true inside, plain-visible b f)
+plain-visible b (tree (group d inside span) f) = rw (plain-visible b f)
 
 plain-ahead_in : (ls : List Frame) → plain (ahead_in ls) ≡ unmarked_in ls
 plain-ahead_in [] = refl
 plain-ahead_in (frame o p a ∷ ls) =
-    plain-append (visible false a) (ahead_in ls)
-    ∙ ap (λ g. concat g (plain (ahead_in ls))) (plain-visible false a)
-    ∙ ap (concat (unmarked a)) (plain-ahead_in ls)
+    rw (plain-append (visible false a) (ahead_in ls), plain-visible false a, plain-ahead_in ls)
 
 pub plain-ahead : (p : Place) → plain (marked_ahead p) ≡ trees_ahead p
 plain-ahead empty_place = refl

@@ -1,6 +1,4 @@
-use Rattle.std.proofs.Common.{◌≡◌, ◌++◌, refl, sym, subst}
-use Rattle.std.specs.Str.{chars}
-use Rattle.tok_core.specs.Lexical.Reading.{ReadsFrom}
+use Rattle.std.proofs.Common.{◌≡◌, ◌++◌, refl}
 use Rattle.tok_buffer.specs.Private.Layout.{entries_of, laid, layout}
 use Rattle.tok_buffer.proofs.Layouts.{lies, forest_in_is}
 use Rattle.tok_buffer.proofs.Levels.{end_completes}
@@ -22,6 +20,4 @@ returns-in_ok-into_entries-in-Ok-clause-reads c =
     let e : entries ≡ entries_of built.inner =
     end_completes (laid built.outer ++ layout built.inner) entries built refl
     c.in-Ok.ensures.closed c.in_ok-into_entries-in-Ok.ensures in
-    subst (λ f. ReadsFrom c.args.start c.args.mode c.args.source
-    (chars c.args.text.now) f) (sym (forest_in_is entries built.inner e))
-    c.in-Ok.ensures.reads
+    rw (forest_in_is entries built.inner e) c.in-Ok.ensures.reads

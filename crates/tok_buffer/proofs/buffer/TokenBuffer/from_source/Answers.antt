@@ -1,10 +1,7 @@
-use Rattle.std.proofs.Common.{◌≡◌, ◌-◌, length, subst, arith}
+use Rattle.std.proofs.Common.{◌≡◌, ◌-◌, length, arith}
 use Rattle.std.specs.Str.{chars}
-use Rattle.tok_lexical.specs.declared.rule.Mode.TheVariants.{Source}
 use Rattle.tok_lexical.specs.Widths.{bytes}
 use Rattle.tok_lexical.proofs.Texts.{cut_length}
-use Rattle.tok_core.specs.Lexical.Outcome.{FollowsFrom}
-use Rattle.tok_buffer.specs.Buffer.{forest_of}
 use Rattle.tok_buffer.proofs.Reading.{buffer_follows}
 use Rattle.tok_buffer.proofs.buffer.TokenBuffer.from_source.Goals as goal
 
@@ -26,8 +23,6 @@ returns-clause-follows c =
       chars c.past_start-rest.result.now,
       cut.1,
       c.past_start-rest.ensures.begins,
-      subst (λ w. FollowsFrom w (Source c.args.edition) c.args.source
-          (chars c.past_start-rest.result.now) (forest_of c.read_buffer.result)) same
-          (buffer_follows _ _ _ _ c.read_buffer.result c.read_buffer.ensures.reads
+      rw same at (buffer_follows _ _ _ _ c.read_buffer.result c.read_buffer.ensures.reads
           c.read_buffer.ensures.refuses),
     )

@@ -1,9 +1,8 @@
 use Rattle.std.proofs.Common.{◌≡◌, ◌∙◌, ◌++◌, ℕ, List, [], false}
-use Rattle.std.proofs.Common.{append_assoc, refl, sym, ap, subst, arith, rules}
+use Rattle.std.proofs.Common.{append_assoc, refl, sym, ap, arith, rules}
 use Rattle.std.proofs.Output.{has_written_append}
 use Rattle.std.proofs.lemmas.Grind.{put_four}
 use Rattle.std.proofs.lemmas.List.{append-nil}
-use Rattle.std.specs.Fmt.{HasWritten}
 use Rattle.tok_core.specs.Forest.{leaf}
 use Rattle.tok_core.specs.Text.{text, text_after, space}
 use Rattle.tok_leaves.specs.Leaves.{leaf_text}
@@ -18,16 +17,12 @@ use Rattle.tok_buffer.proofs.cursor.rest.+write_from.Goals as goal
 
 leaf_written : (done space mine rest : List ℕ) → (done ++ (space ++ mine)) ++ rest ≡ done
     ++ (space ++ (mine ++ rest))
-leaf_written done space mine rest = append_assoc done (space ++ mine) rest
-    ∙ ap (λ z. done ++ z) (append_assoc space mine rest)
+leaf_written done space mine rest = simp append_assoc
 
 group_written : (done space front inside close rest : List ℕ) →
     (done ++ ((space ++ front) ++ (inside ++ close))) ++ rest ≡ done
     ++ (space ++ ((front ++ (inside ++ close)) ++ rest))
-group_written done space front inside close rest =
-    append_assoc done ((space ++ front) ++ (inside ++ close)) rest
-    ∙ ap (λ z. done ++ z) (ap (λ z. z ++ rest) (append_assoc space front (inside ++ close))
-    ∙ append_assoc space (front ++ (inside ++ close)) rest)
+group_written done space front inside close rest = simp append_assoc
 
 pub loop-ahead-init : goal.loop-ahead-init
 loop-ahead-init g t c =
@@ -108,4 +103,4 @@ returns g t c =
     c.loop-ahead-test.false))
     ∙ more
     in
-    subst (λ z. HasWritten g.W.Write.write_str_gives c.args.f.now z c.loop-ahead.f) whole wrote
+    rw whole at wrote

@@ -6,9 +6,6 @@ use Rattle.tok_buffer.proofs.cursor.rest.count_ahead.Goals as goal
 pub returns : goal.returns
 returns c =
     let a = c.loop-ahead.ahead in
-    omega (
-      arith,
-      c.loop-ahead.invariant.counted,
-      ap tree_count (rest_done a.buffer.now.number a.buffer.now.forest a.position a.scope a.within
-          c.loop-ahead-test.false),
-    )
+    let none = rest_done a.buffer.now.number a.buffer.now.forest a.position a.scope a.within
+    c.loop-ahead-test.false in
+    omega (arith, ap tree_count none)

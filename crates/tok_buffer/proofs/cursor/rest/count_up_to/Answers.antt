@@ -10,18 +10,13 @@ loop-ahead-preserved-else-group-end c =
     record {
       scope = f.entered.scope ∙ i.scope;
       fits = omega (arith, i.fits, f.entered.position);
-      counted = omega (
-        arith,
-        i.counted,
-        ap tree_count (taken_open c.args.end c.loop-ahead.ahead c.in-Group.group f
-            c.if-group-end.false),
-      );
+      counted =
+          let entered = taken_open c.args.end c.loop-ahead.ahead c.in-Group.group f
+          c.if-group-end.false in
+          omega (arith, i.counted, ap tree_count entered);
     }
 
 pub returns : goal.returns
 returns c =
-    omega (
-      arith,
-      c.loop-ahead.invariant.counted,
-      ap tree_count (taken_done c.args.end c.loop-ahead.ahead c.loop-ahead-test.false),
-    )
+    let none = taken_done c.args.end c.loop-ahead.ahead c.loop-ahead-test.false in
+    omega (arith, ap tree_count none)

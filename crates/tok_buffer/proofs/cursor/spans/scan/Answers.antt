@@ -1,4 +1,4 @@
-use Rattle.std.proofs.Common.{◌∙◌, ◌+◌, ◌-◌, Some, refl, sym, ap, arith, ltb}
+use Rattle.std.proofs.Common.{◌∙◌, ◌+◌, ◌-◌, refl, sym, ap, arith}
 use Rattle.std.specs.Prelude.{not}
 use Rattle.tok_core.specs.Forest.{leaf}
 use Rattle.tok_buffer.specs.Ahead.{first_of}
@@ -12,11 +12,11 @@ pub returns-in-Leaf : goal.returns-in-Leaf
 returns-in-Leaf c =
     let b = c.args.buffer.now in
     let d = c.loop-ahead.depth in
-    ap (λ z. Some (ltb 0 d, z)) c.span.ensures
-    ∙ sym (shown_front d (ahead_place c.loop-ahead.ahead) (leaf (leaf_in c.in-Leaf.leaf))
+    rw c.span.ensures
+    (sym (shown_front d (ahead_place c.loop-ahead.ahead) (leaf (leaf_in c.in-Leaf.leaf))
     c.in-Leaf.ensures.0 refl)
     ∙ ap first_of (c.loop-ahead.invariant.same
-    ∙ sym (shown_is (place_at b.number b.forest c.args.from c.args.scope)))
+    ∙ sym (shown_is (place_at b.number b.forest c.args.from c.args.scope))))
 
 pub returns-then-not-same : goal.returns-then-not-same
 returns-then-not-same c =
