@@ -6,11 +6,10 @@ use Rattle.tok_core.specs.Forest.{leaf, group, Forest, no_trees, tree}
 use Rattle.tok_leaves.specs.declared.span.Span.{Span}
 use Rattle.tok_leaves.specs.Spans.{closing_span}
 use Rattle.tok_core.specs.Weight.{weight}
-use Rattle.tok_buffer.specs.Spans.{enclosing_closing, frame_span}
+use Rattle.tok_buffer.specs.Spans.{enclosing_closing, frame_span, current_span, previous_span}
 use Rattle.tok_buffer.specs.Place.{whole, in_group, Frame, frame, at}
 use Rattle.tok_buffer.specs.Moves.{frame_ahead, frame_enclosing, move, frames_at}
 use Rattle.tok_buffer.specs.Private.Layout.{leaf_entry, entries_of, entry_here}
-use Rattle.tok_buffer.specs.Spans.{current_span, previous_span}
 use Rattle.tok_buffer.specs.declared.entry.Opening.{Opening as Sort}
 use Rattle.tok_buffer.specs.declared.entry.Entry.TheVariants.{Group, End}
 use Rattle.tok_buffer.proofs.Layouts.{same_leaf, not_leaf}

@@ -1,7 +1,6 @@
 -- The trees between two places, move by move.
-use Rattle.std.proofs.Common.{◌≡◌, ◌∙◌, sym, ap, ap₂, refl, arith, ℕ, ◌+◌, ◌-◌, ◌≤◌, ◌<◌}
-use Rattle.std.proofs.Common.{true, List, [], ◌∷◌, Option, Some, None, le-leb}
-use Rattle.std.proofs.Common.{eqb-true, inl, inr}
+use Rattle.std.proofs.Common.{◌≡◌, ◌∙◌, sym, ap, ap₂, refl, arith, ℕ, ◌+◌, ◌-◌, ◌≤◌, ◌<◌, true}
+use Rattle.std.proofs.Common.{List, [], ◌∷◌, Option, Some, None, le-leb, eqb-true, inl, inr}
 use Rattle.std.proofs.lemmas.Bool.{and_parts, cases_lt, lt-leb}
 use Rattle.std.specs.Prelude.{◌==◌, ◌&&◌, IfOk, Result, Ok, Err}
 use Rattle.tok_leaves.specs.declared.span.Span.{Span}
@@ -23,7 +22,7 @@ use Rattle.tok_buffer.specs.Reads.{read_tree}
 use Rattle.tok_buffer.specs.Trees.{read_visible}
 use Rattle.tok_buffer.specs.View.{erased_ahead, erased_in}
 use Rattle.tok_buffer.specs.declared.spot.Spot.{Spot}
-use Rattle.tok_buffer.proofs.InScope.{before_scope}
+use Rattle.tok_buffer.proofs.InScope.{before_scope, count_of}
 use Rattle.tok_buffer.proofs.View.Erased.{erased-descend, erased-leave_finished}
 use Rattle.tok_buffer.proofs.View.Keeps.{IsKept, kept-descend, kept-leave_finished}
 use Rattle.tok_buffer.proofs.View.Moves.{IsMoved, moved-pass, read_parts, some_weight}
@@ -119,6 +118,7 @@ opened e k s n o p c t f us = elim (cases_lt e (n + (2 + weight c))) [
 
 -- so neither settling nor a descent changes the visible trees
 module _ (e : ℕ) (x : Forest) where
+  -- the visible trees up to a count are these
   abbrev HasTrees : Place → Type 0
   HasTrees p = erase (trees_to e p) ≡ x
 
@@ -130,13 +130,12 @@ module _ (e : ℕ) (x : Forest) where
 
 trees-descend : (e : ℕ) (p : Place) → erase (trees_to e (descend p)) ≡ erase (trees_to e p)
 trees-descend e p =
-    kept-descend (HasTrees e (erase (trees_to e p))) (kept-trees e (erase (trees_to e p))) p refl
+    kept-descend (HasTrees e _) (kept-trees e _) p refl
 
 trees-settled : (e k s n : ℕ) (l : Frame) (us : List Frame)
     → erase (trees_to e (leave_finished k s n l us)) ≡ erase (trees_to e (at k s n l us))
 trees-settled e k s n l us =
-    kept-leave_finished (HasTrees e (erase (trees_to e (at k s n l us))))
-    (kept-trees e (erase (trees_to e (at k s n l us)))) k s n l us refl
+    kept-leave_finished (HasTrees e _) (kept-trees e _) k s n l us refl
 
 -- in this buffer and scope, and no earlier
 abbrev Later : ℕ → ℕ → ℕ → Place → Type 0
@@ -151,10 +150,6 @@ moved-later k s n = record {
   };
   past = λ i t d o p x f us h. (h.0, h.1, omega (arith, h.2));
 }
-
-abbrev pub count_of : Place → ℕ
-count_of empty_place = 0
-count_of (at k s n l us) = n
 
 later_count : (k s n : ℕ) (q : Place) → Later k s n q → n ≤ count_of q
 later_count k s n empty_place h = absurd h
@@ -184,8 +179,7 @@ goes_down p =
       go : (q : Place) → count_of q ≤ count_of (descend q)
       go empty_place = omega arith
       go (at k s n l us) =
-          later_count k s n (descend (at k s n l us))
-          (kept-descend (Later k s n) (moved-later k s n).kept (at k s n l us)
+          later_count k s n _ (kept-descend (Later k s n) (moved-later k s n).kept (at k s n l us)
           (refl, refl, omega arith))
 
 goes_past : (k s n : ℕ) (o : Enclosing) (p : Forest) (t : Tree) (f : Forest) (us : List Frame)
@@ -195,8 +189,7 @@ goes_past k s n o p t f us =
     let m = n + tree_weight t in
     let l = frame o (tree t p) f in
     let far : m ≤ count_of (leave_finished k s m l us) =
-    later_count k s m (leave_finished k s m l us)
-    (kept-leave_finished (Later k s m) (moved-later k s m).kept k s m l us
+    later_count k s m _ (kept-leave_finished (Later k s m) (moved-later k s m).kept k s m l us
     (refl, refl, omega arith)) in
     record {
       later = omega (arith, far);
@@ -246,14 +239,12 @@ past_splits : (p q : Place) → Splits p q → Splits p (pass q)
 past_splits p empty_place h = h
 past_splits p (at k s n (frame o b no_trees) us) h = h
 past_splits p (at k s n (frame o b (tree t f)) us) h =
-    then_splits p (at k s n (frame o b (tree t f)) us)
-    (pass (at k s n (frame o b (tree t f)) us)) (erase (tree t no_trees)) h
-    (goes_past k s n o b t f us)
+    then_splits p _ _ (erase (tree t no_trees)) h (goes_past k s n o b t f us)
 
 follows_splits : (p q : Place) → Follows p q → Splits p q
 follows_splits p q from_here = splits_here p
 follows_splits p q (after_descent r h) =
-    then_splits p r (descend r) no_trees (follows_splits p r h) (goes_down r)
+    then_splits p r _ no_trees (follows_splits p r h) (goes_down r)
 follows_splits p q (after_tree r h) = past_splits p r (follows_splits p r h)
 
 -- a place that follows is a later one of the same scope

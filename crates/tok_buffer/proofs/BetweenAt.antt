@@ -31,9 +31,11 @@ open_taken e k s n (frame o p (tree (group x b y) f)) us d c t q h =
     let w : b ≡ c = cc in to_open e k s n o p x b y f us (omega (arith, ap weight w, h))
 
 module _ (e : ℕ) (a : Ahead) where
+  -- the innermost frame
   abbrev inner : Frame
   inner = (frames_at a.buffer.now.forest a.position).0
 
+  -- the frames around it in the scope
   abbrev outer : List Frame
   outer =
       frames_in_scope (end_of a.position inner) a.scope

@@ -1,6 +1,6 @@
 -- A descent, one group at a time.
 use Rattle.std.proofs.Common.{◌≡◌, ℕ, ◌+◌, true, false, List, [], ◌∷◌, Option, Some, None, refl}
-use Rattle.std.proofs.Common.{ap, sym, ◌∙◌, arith, add-zero}
+use Rattle.std.proofs.Common.{sym, ◌∙◌, arith, add-zero}
 use Rattle.std.specs.Prelude.{unwrap_or}
 use Rattle.std.specs.Option.{option_or}
 use Rattle.std.proofs.lemmas.Bool.{false≢true}
@@ -57,15 +57,9 @@ into_step k s n o p c span f ls =
     let a = into_front c k s (n + 1) (in_group delimiter.None span) no_trees (frame o p f ∷ ls) in
     let m = n + 1 + weight c + 1 in
     let e : m ≡ n + (2 + weight c) = omega arith in
-    let far = after k s n o p (tree g f) ls in
-    ap (λ z. unwrap_or a (descend_from k s m (frame o (tree (group delimiter.None z span) p) f)
-    ls)) (reversed_back c)
-    ∙ ap (λ z. unwrap_or a (descend_from k s z (frame o (tree g p) f) ls)) e
-    ∙ ap (unwrap_or a) (descend_from_is k s (n + (2 + weight c)) o (tree g p) f ls)
-    ∙ ap (λ z. unwrap_or a (unwrap_or (into_front f k s (n + (2 + weight c)) o (tree g p) ls) z))
-    (after_group k s n (n + (2 + weight c)) o p g f ls (omega arith))
-    ∙ sym (or-unwrap a (into_front f k s (n + (2 + weight c)) o (tree g p) ls) far)
-    ∙ sym (descend_from_is k s n o p (tree g f) ls)
+    rw (reversed_back c, e, descend_from_is k s (n + (2 + weight c)) o (tree g p) f ls)
+    (rw (after_group k s n (n + (2 + weight c)) o p g f ls (omega arith), ← or-unwrap)
+    (sym (descend_from_is k s n o p (tree g f) ls)))
 
 -- entering the invisible group in front doesn't change where the descent leads
 pub descend_step : (k s n : ℕ) (l : Frame) (us : List Frame) → invisible_front (frame_ahead l)
@@ -75,11 +69,7 @@ descend_step k s n (frame o p (tree (leaf i) f)) us h = absurd (false≢true h)
 descend_step k s n (frame o p (tree (group delimiter.None c span) f)) us h =
     descend-leave_finished k s (n + 1) (frame (in_group delimiter.None span) no_trees c)
     (frame o p f ∷ us) ∙ into_step k s n o p c span f us
-descend_step k s n (frame o p (tree (group delimiter.Parenthesis c span) f)) us h =
-    absurd (false≢true h)
-descend_step k s n (frame o p (tree (group delimiter.Brace c span) f)) us h = absurd (false≢true h)
-descend_step k s n (frame o p (tree (group delimiter.Bracket c span) f)) us h =
-    absurd (false≢true h)
+descend_step k s n (frame o p (tree (group d c span) f)) us h = absurd (false≢true h)
 
 visible_done : (k s n : ℕ) (o : Enclosing) (p f : Forest) (us : List Frame) →
     into_front f k s n o p us ≡ Some (at k s n (frame o p f) us) →
@@ -95,9 +85,5 @@ descend_done k s n (frame o p (tree (leaf i) f)) us q h =
     visible_done k s n o p (tree (leaf i) f) us refl
 descend_done k s n (frame o p (tree (group delimiter.None c t) f)) us q h =
     absurd (false≢true (sym h))
-descend_done k s n (frame o p (tree (group delimiter.Parenthesis c t) f)) us q h =
-    visible_done k s n o p (tree (group delimiter.Parenthesis c t) f) us refl
-descend_done k s n (frame o p (tree (group delimiter.Brace c t) f)) us q h =
-    visible_done k s n o p (tree (group delimiter.Brace c t) f) us refl
-descend_done k s n (frame o p (tree (group delimiter.Bracket c t) f)) us q h =
-    visible_done k s n o p (tree (group delimiter.Bracket c t) f) us refl
+descend_done k s n (frame o p (tree (group d c t) f)) us q h =
+    visible_done k s n o p (tree (group d c t) f) us refl

@@ -25,6 +25,7 @@ leave_finished_rests n s c (frame o p no_trees) (u ∷ us) = leave_finished_rest
     (leave_group o p u) us
 leave_finished_rests n s c (frame o p (tree t f)) (u ∷ us) = refl
 
+-- entering leads from one place to the other, where no invisible group is next
 abbrev Enters : Place → Place → Type 0
 Enters p q = EntersAll p q × (is_before_invisible q ≡ false)
 
@@ -37,16 +38,6 @@ enters_down fuel (at n s c (frame o p no_trees) ls) h r =
     enters_at_once _ _ (descend_done n s c (frame o p no_trees) ls r refl) refl
 enters_down fuel (at n s c (frame o p (tree (leaf l) f)) ls) h r =
     enters_at_once _ _ (descend_done n s c (frame o p (tree (leaf l) f)) ls r refl) refl
-enters_down fuel (at n s c (frame o p (tree (group delimiter.Parenthesis inside span) f)) ls) h
-    r = enters_at_once _ _
-    (descend_done n s c (frame o p (tree (group delimiter.Parenthesis inside span) f)) ls r refl)
-    refl
-enters_down fuel (at n s c (frame o p (tree (group delimiter.Brace inside span) f)) ls) h r =
-    enters_at_once _ _
-    (descend_done n s c (frame o p (tree (group delimiter.Brace inside span) f)) ls r refl) refl
-enters_down fuel (at n s c (frame o p (tree (group delimiter.Bracket inside span) f)) ls) h r =
-    enters_at_once _ _
-    (descend_done n s c (frame o p (tree (group delimiter.Bracket inside span) f)) ls r refl) refl
 enters_down zero (at n s c (frame o p (tree (group delimiter.None inside span) f)) ls) h r =
     absurd (omega (arith, h))
 enters_down (suc k) (at n s c (frame o p (tree (group delimiter.None inside span) f)) ls) h r =
@@ -61,6 +52,9 @@ enters_down (suc k) (at n s c (frame o p (tree (group delimiter.None inside span
     let way : Enters here (descend (inwards here)) =
     (enters here (descend (inwards here)) refl down.0, down.1) in
     rw e at way
+enters_down fuel (at n s c (frame o p (tree (group d inside span) f)) ls) h r =
+    let done = descend_done n s c (frame o p (tree (group d inside span) f)) ls r refl in
+    enters_at_once _ _ done refl
 
 descend-settled : (p : Place) → descend (settled p) ≡ descend p
 descend-settled empty_place = refl

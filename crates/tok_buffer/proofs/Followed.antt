@@ -1,6 +1,5 @@
 -- Where calls lead, and the visible trees that they take.
-use Rattle.std.proofs.Common.{◌≡◌, ap, Bool, List}
-use Rattle.std.proofs.Common.{[], ◌∷◌, Some}
+use Rattle.std.proofs.Common.{◌≡◌, ap, Bool, List, [], ◌∷◌, Some}
 use Rattle.std.specs.Prelude.{IfSome, option_map}
 use Rattle.tok_lexical.specs.declared.delimiter.Delimiter.{Delimiter}
 use Rattle.tok_core.specs.Forest.{Tree, leaf, group, no_trees, tree}

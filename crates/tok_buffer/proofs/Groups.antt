@@ -9,8 +9,7 @@ use Rattle.tok_core.specs.Weight.{weight}
 use Rattle.tok_buffer.specs.Entry.{enter_any}
 use Rattle.tok_buffer.specs.Place.{in_group, Frame, frame, Place, at, settled}
 use Rattle.tok_buffer.specs.Moves.{frame_ahead, frame_passed, frame_enclosing, frames_at}
-use Rattle.tok_buffer.specs.Moves.{frames_in_scope, end_of, place_at}
-use Rattle.tok_buffer.specs.Moves.{in_scope, settled_at}
+use Rattle.tok_buffer.specs.Moves.{frames_in_scope, end_of, place_at, in_scope, settled_at}
 use Rattle.tok_buffer.specs.Private.Layout.{entry_here}
 use Rattle.tok_buffer.specs.declared.entry.Opening.{Opening as Sort}
 use Rattle.tok_buffer.specs.declared.entry.Entry.TheVariants.{Group}
@@ -35,9 +34,11 @@ group_front (frame o p (tree (group d c t) f)) g k e =
 -- the group that an entry holds, with the distance m to its end
 module _ (F : Forest) (n s : ℕ) (g : Sort) (m : ℕ) (h : in_scope F n s ≡ true)
     (e : entry_here (frames_at F n).0 ≡ Group g m) where
+  -- the frame at the group
   abbrev here : Frame
   here = (frames_at F n).0
 
+  -- the frames around it
   abbrev around : List Frame
   around = (frames_at F n).1
 
@@ -46,12 +47,15 @@ module _ (F : Forest) (n s : ℕ) (g : Sort) (m : ℕ) (h : in_scope F n s ≡ t
       × (Fronts (frames_at F n).0 g.delimiter g.span c f × (m ≡ weight c + 1))
   held = group_front here g m e
 
+  -- the frame inside the group
   abbrev inner : Frame
   inner = frame (in_group g.delimiter g.span) no_trees held.0
 
+  -- the frame around the group, once it is entered
   abbrev outer : Frame
   outer = frame (frame_enclosing here) (frame_passed here) held.1
 
+  -- the frame after the group
   abbrev passed : Frame
   passed =
       frame (frame_enclosing here) (tree (group g.delimiter held.0 g.span) (frame_passed here))

@@ -175,10 +175,12 @@ not_at_scope F n s h q f =
     let x = frames_at F n in
     λ e. let same = eq-eqb n s e in cc (end_seen n s x.0 x.1 h q)
 
-abbrev count_of : Place → ℕ
+-- the count at a place
+abbrev pub count_of : Place → ℕ
 count_of empty_place = 0
 count_of (at k s n l us) = n
 
+-- the count at the end of a place's scope
 abbrev pub scope_of : Place → ℕ
 scope_of empty_place = 0
 scope_of (at k s n l us) = s

@@ -10,7 +10,8 @@ use Rattle.tok_buffer.specs.Place.{leave_finished, leave_group}
 use Rattle.tok_buffer.specs.Reads.{read_tree}
 use Rattle.tok_buffer.specs.Rest.{rest, rest_in}
 use Rattle.tok_buffer.specs.Trees.{PassesTrees, here, further}
-use Rattle.tok_buffer.proofs.Between.{between_is, count_of, to_close, to_here, to_tree}
+use Rattle.tok_buffer.proofs.Between.{between_is, to_close, to_here, to_tree}
+use Rattle.tok_buffer.proofs.InScope.{count_of}
 
 -- settling changes neither the trees up to a count nor the rest, and goes no further back
 trees-settled : (e k s n : ℕ) (l : Frame) (us : List Frame)
@@ -52,6 +53,7 @@ joins-here p =
 
 module _ (p : Place) (k s n : ℕ) (o : Enclosing) (b : Forest) (t : Tree) (f : Forest)
     (us : List Frame) (so : Joins p (at k s n (frame o b (tree t f)) us)) where
+  -- the place after the front tree
   abbrev after : Place
   after = leave_finished k s (n + tree_weight t) (frame o (tree t b) f) us
 

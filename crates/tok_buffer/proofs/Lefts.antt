@@ -4,8 +4,7 @@ use Rattle.tok_leaves.specs.declared.span.Span.{Span}
 use Rattle.tok_lexical.specs.declared.delimiter.Delimiter.{Delimiter}
 use Rattle.tok_lexical.specs.declared.delimiter.Delimiter.TheVariants as delimiter
 use Rattle.tok_core.specs.Forest.{Tree, tree_span}
-use Rattle.tok_buffer.specs.Ahead.{first_left}
-use Rattle.tok_buffer.specs.Ahead.{first_of, left_of}
+use Rattle.tok_buffer.specs.Ahead.{first_left, first_of, left_of}
 
 pub left_first : (scope : Delimiter) (xs : List (Bool × Tree)) (m : Bool) (span : Span) →
     first_of xs ≡ Some (m, span) → left_of (Some (span, cond m delimiter.None scope))

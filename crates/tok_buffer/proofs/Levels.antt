@@ -14,8 +14,7 @@ use Rattle.tok_core.proofs.Facts.{concat-none}
 use Rattle.tok_core.proofs.Levels.{ends_in_last, levels_of-put, one_end, same_levels}
 use Rattle.tok_buffer.specs.declared.entry.Entry.{Entry}
 use Rattle.tok_buffer.specs.declared.entry.Entry.TheVariants.{Group, End}
-use Rattle.tok_buffer.specs.Private.Layout.{leaf_entry, layout, entries_of, laid, places}
-use Rattle.tok_buffer.specs.Private.Layout.{levels_in}
+use Rattle.tok_buffer.specs.Private.Layout.{leaf_entry, layout, entries_of, laid, places, levels_in}
 use Rattle.tok_buffer.specs.Private.Layout.{stack_entries}
 use Rattle.tok_buffer.proofs.Layouts.{length-layout, layout-concat, stack_entries-append}
 use Rattle.tok_buffer.proofs.Layouts.{stack_entries-layout, fill_lays}

@@ -24,6 +24,7 @@ pub mod Rests
 pub mod Scans
 pub mod ScopeEnds
 pub mod Spanned
+pub mod Spots
 pub mod Stacks
 pub mod Steps
 pub mod View

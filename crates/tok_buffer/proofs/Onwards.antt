@@ -7,7 +7,7 @@ use Rattle.std.specs.Ordering.{is_le, is_lt, is_some_and, nat_cmp}
 use Rattle.std.specs.declared.cmp.Ordering.TheVariants.{Less}
 use Rattle.tok_lexical.specs.declared.delimiter.Delimiter.{Delimiter}
 use Rattle.tok_core.specs.Forest.{leaf, group, Tree, Forest, no_trees, tree}
-use Rattle.tok_core.specs.Weight.{tree_weight, weight}
+use Rattle.tok_core.specs.Weight.{weight}
 use Rattle.tok_buffer.specs.Descent.{descend}
 use Rattle.tok_buffer.specs.EachRead.{Read, First}
 use Rattle.tok_buffer.specs.Entry.{Entered, enter, enter_any}
@@ -56,8 +56,7 @@ module _ (n s c m : ℕ) where
   past_since (at i u d (frame o p no_trees) ls) t e h = absurd (cc)
   past_since (at i u d (frame o p (tree x f)) ls) t e h =
       let some = some_weight x in
-      kept-leave_finished (Since n s (c + 1) m) (kept_since n s (c + 1) m) i u (d + tree_weight x)
-      (frame o (tree x p) f) ls
+      kept-leave_finished (Since n s (c + 1) m) (kept_since n s (c + 1) m) _ _ _ _ ls
       (h.0, h.1, omega (arith, h.2, some), omega (arith, h.3, some))
 
   weaker_since : (p : Place) → Since n s (c + 1) m p → Since n s c (m + 1) p
@@ -80,7 +79,7 @@ stays_since : (n s c e m : ℕ) (l : Frame) (ls : List Frame) (q : Place) → c 
     → StaysIn (at n s c l ls) q × (remaining q ≤ m)
 stays_since n s c e m l ls empty_place h k = absurd k
 stays_since n s c e m l ls (at i t d x xs) h k =
-    (rw k.0 (rw k.1 (in_scope n s c d l x ls xs (omega (arith, h, k.2)))), k.3)
+    (rw (k.0, k.1) (in_scope n s c d l x ls xs (omega (arith, h, k.2))), k.3)
 
 in_order_later : (n s c d : ℕ) (l m : Frame) (ls ms : List Frame) → c < d →
     order (at n s c l ls) (at n s d m ms) ≡ Some Less
@@ -113,10 +112,10 @@ module _ {A : Type 0} (end : A → Place) (move : Place → Option A) where
   goes on (at n s c (frame o p f) ls) =
       let m = weight f + remaining_around ls in
       IfSome_then (move (at n s c (frame o p f) ls))
-      (on (Since n s c (m + 1)) (Since n s (c + 1) m) (leads_on n s c m)
-      (at n s c (frame o p f) ls) (refl, refl, omega arith, omega arith))
+      (on _ _ (leads_on n s c m) (at n s c (frame o p f) ls) (refl, refl, omega arith, omega arith))
       (λ x h. goes_on n s c o p f ls (end x) h)
 
+-- the place after a read
 abbrev after_read : List Tree × Place → Place
 after_read r = r.1
 
@@ -168,6 +167,7 @@ in_order : (n m c d : ℕ) → is_some_and is_le (cond (n == m) (Some (nat_cmp c
     c ≤ d
 in_order n m c d h = grind arith
 
+-- two places of one buffer and scope, the second no earlier
 pub record Along (n s c m t d : ℕ) : Type 0 where
   pub numbers : n ≡ m
   pub scopes : s ≡ t
@@ -242,16 +242,16 @@ descents : (p : Place) → Stays p (descend p)
 descents empty_place = (inr refl, omega arith)
 descents (at n s c l ls) =
     let m = remaining (at n s c l ls) in
-    stays_since n s c c m l ls (descend (at n s c l ls)) (omega arith)
+    stays_since n s c c m l ls _ (omega arith)
     (kept-descend (Since n s c m) (kept_since n s c m) (at n s c l ls)
     (refl, refl, omega arith, omega arith))
 
 pass_goes_on : (n s c : ℕ) (o : Enclosing) (p : Forest) (t : Tree) (f : Forest) (ls : List Frame)
     → GoesOn (at n s c (frame o p (tree t f)) ls) (pass (at n s c (frame o p (tree t f)) ls))
 pass_goes_on n s c o p t f ls =
-    goes_on n s c o p (tree t f) ls (pass (at n s c (frame o p (tree t f)) ls))
-    (past_since n s c (weight (tree t f) + remaining_around ls)
-    (at n s c (frame o p (tree t f)) ls) t refl (refl, refl, omega arith, omega arith))
+    goes_on n s c o p (tree t f) ls _
+    (past_since n s c _ (at n s c (frame o p (tree t f)) ls) t refl
+    (refl, refl, omega arith, omega arith))
 
 passes : (p : Place) → Stays p (pass p)
 passes empty_place = (inr refl, omega arith)
@@ -317,9 +317,8 @@ pub leave_finished_remaining : (n s c : ℕ) (l : Frame) (ls : List Frame) →
     remaining (leave_finished n s c l ls) ≤ remaining (at n s c l ls)
 leave_finished_remaining n s c l ls =
     let m = remaining (at n s c l ls) in
-    (stays_since n s c c m l ls (leave_finished n s c l ls) (omega arith)
-    (kept-leave_finished (Since n s c m) (kept_since n s c m) n s c l ls
-    (refl, refl, omega arith, omega arith))).1
+    (stays_since n s c c m l ls _ (omega arith) (kept-leave_finished (Since n s c m)
+    (kept_since n s c m) n s c l ls (refl, refl, omega arith, omega arith))).1
 
 -- what holds of each move that goes on holds of each call
 calls_lead : (P : Place → Place → Type 0) → ((p q : Place) → GoesOn p q → P p q) → CallsLead P

@@ -10,6 +10,7 @@ use Rattle.tok_buffer.specs.Cursors.{place_of, spot_place}
 use Rattle.tok_buffer.specs.Place.{Place, empty_place}
 use Rattle.tok_buffer.specs.Reads.{read_next, read_punctuation}
 
+-- what is read, and the place after it
 abbrev Read : Type 0
 Read = Option (List Tree × Place)
 

@@ -8,8 +8,7 @@ use Rattle.tok_buffer.specs.Place.{Frame, frame, Place, empty_place, at, front}
 use Rattle.tok_buffer.specs.Moves.{end_of, frame_ahead, frames_at, frames_in_scope}
 use Rattle.tok_buffer.specs.Moves.{in_scope, place_at}
 use Rattle.tok_buffer.specs.Rest.{rest}
-use Rattle.tok_buffer.specs.Private.Steps.{ahead_place, beyond, inside_front}
-use Rattle.tok_buffer.specs.Private.Steps.{IsOn, FindsGroup}
+use Rattle.tok_buffer.specs.Private.Steps.{ahead_place, beyond, inside_front, IsOn, FindsGroup}
 use Rattle.tok_buffer.specs.declared.ahead.Ahead.{Ahead}
 use Rattle.tok_buffer.specs.declared.ahead.NextGroup.{NextGroup}
 use Rattle.tok_buffer.proofs.InScope.{scope_end}

@@ -1,11 +1,10 @@
 -- Visible trees, and the end of a scope.
-use Rattle.std.proofs.Common.{◌≡◌, ◌∙◌, ap, refl, arith, ℕ, ◌+◌, ◌<◌, ◌≤◌}
+use Rattle.std.proofs.Common.{◌≡◌, ◌∙◌, ap, refl, arith, ℕ, ◌<◌, ◌≤◌}
 use Rattle.std.proofs.Common.{true, List, [], ◌∷◌, Option, Some, None}
 use Rattle.std.proofs.lemmas.Bool.{false≢true}
 use Rattle.tok_lexical.specs.declared.delimiter.Delimiter.TheVariants as delimiter
 use Rattle.tok_core.specs.Erase.{erase}
 use Rattle.tok_core.specs.Forest.{Tree, leaf, group, no_trees, tree}
-use Rattle.tok_core.specs.Weight.{weight}
 use Rattle.tok_core.proofs.Erasures.{erase_concat}
 use Rattle.tok_buffer.specs.Buffer.{Laid}
 use Rattle.tok_buffer.specs.Cursors.{place_of, spot_place}
@@ -24,7 +23,7 @@ use Rattle.tok_buffer.specs.View.{erased_ahead, erased_in}
 use Rattle.tok_buffer.specs.declared.cursor.Cursor.{Cursor}
 use Rattle.tok_buffer.specs.declared.spot.Spot.{Spot}
 use Rattle.tok_buffer.proofs.Onwards.{reads_go_on, reads_keep_scope}
-use Rattle.tok_buffer.proofs.View.Erased.{erased-descend, erased-leave_finished}
+use Rattle.tok_buffer.proofs.View.Erased.{erased-descend, erased-pass}
 use Rattle.tok_buffer.proofs.View.Keeps.{IsDescended, descended-descend}
 use Rattle.tok_buffer.proofs.View.Laws.{reached_leads_on}
 use Rattle.tok_buffer.proofs.View.Moves.{leads-take, read_parts}
@@ -36,13 +35,10 @@ front-visible empty_place h = refl
 front-visible (at n s c (frame o p no_trees) []) h = refl
 front-visible (at n s c (frame o p no_trees) (l ∷ ls)) h = absurd h
 front-visible (at n s c (frame o p (tree (leaf l) f)) ls) h =
-    ap (λ g. Some (leaf l ∷ [], g))
-    (erased-leave_finished n s (c + 1) (frame o (tree (leaf l) p) f) ls)
+    rw (erased-pass n s c o p (leaf l) f ls)
 front-visible (at n s c (frame o p (tree (group delimiter.None inside span) f)) ls) h = absurd h
 front-visible (at n s c (frame o p (tree (group d inside span) f)) ls) h =
-    ap (λ g. Some (group d (erase inside) span ∷ [], g))
-    (erased-leave_finished n s (c + (2 + weight inside)) (frame o (tree (group d inside span) p) f)
-    ls)
+    rw (erased-pass n s c o p (group d inside span) f ls)
 
 -- the next visible tree is the first one ahead
 pub visible_tells : (p : Place) → erased_read (read_visible p) ≡ first_if any_tree (erased_ahead p)

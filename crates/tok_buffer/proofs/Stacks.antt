@@ -27,15 +27,18 @@ outside (in_group d s) c (frame o p f ∷ us) = (
   End (weight c + 1) ∷ (layout f ++ (outside o (reverse_onto p (tree (group d c s) f)) us).1),
 )
 
+-- each frame but the last is inside a group
 abbrev pub nested : Frame → List Frame → Type 0
 nested (frame whole p f) [] = Unit {0}
 nested (frame whole p f) (u ∷ us) = ⊥
 nested (frame (in_group d s) p f) [] = ⊥
 nested (frame (in_group d s) p f) (u ∷ us) = nested u us
 
+-- the entries before what is ahead in a frame
 abbrev pub before : Frame → List Frame → List Entry
 before (frame o p f) us = (outside o (reverse_onto p f) us).0 ++ layout (reverse_onto p no_trees)
 
+-- the entries of what is ahead in a frame, and those after it
 abbrev pub after : Frame → List Frame → List Entry
 after (frame o p f) us = layout f ++ (outside o (reverse_onto p f) us).1
 
@@ -98,6 +101,7 @@ move_past (in_group d s) p no_trees (frame o q g ∷ us) h k =
     let x = reverse_onto p no_trees in
     close_moves (outside o (reverse_onto q (tree (group d x s) g)) us) q d s x g
 
+-- these frames are at a count of these entries
 abbrev pub At : List Entry → Frame → List Frame → ℕ → Type 0
 At E l us n = nested l us × (E ≡ before l us ++ after l us) × (length (before l us) ≡ n)
 

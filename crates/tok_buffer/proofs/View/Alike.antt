@@ -14,14 +14,14 @@ use Rattle.tok_buffer.specs.Reached.{Reached, begin, nowhere}
 use Rattle.tok_buffer.specs.Reads.{skip}
 use Rattle.tok_buffer.specs.Rest.{scope_delimiter}
 use Rattle.tok_buffer.specs.SameView.{leftover_span, SameView}
-use Rattle.tok_buffer.specs.View.{entered_view, IsVisibleDelimiter}
-use Rattle.tok_buffer.specs.View.{view, with_view}
+use Rattle.tok_buffer.specs.View.{entered_view, IsVisibleDelimiter, view, with_view}
 use Rattle.tok_buffer.proofs.View.Laws.{calls_lead_on, reached_leads_on, read-same, starts_agree}
 use Rattle.tok_buffer.proofs.View.Laws.{views_decide, views_tell_delimiters, views_tell_scopes}
 use Rattle.tok_buffer.proofs.View.Moves.{LeadsTo, leads}
 use Rattle.tok_buffer.proofs.View.Readings.{Reading}
 use Rattle.std.proofs.lemmas.Option.{some_pair_parts}
 
+-- two places that look the same
 abbrev pub Alike : Laid → Laid → Place → Place → Type 0
 Alike = SameView
 
@@ -32,17 +32,20 @@ ReadsAlike f g None None = ⊤
 ReadsAlike f g (Some r) (Some q) = (r.0 ≡ q.0) × Alike f g r.1 q.1
 ReadsAlike f g r q = ⊥
 
+-- two places that agree, or none
 abbrev pub PlacesAlike : Laid → Laid → Option Place → Option Place → Type 0
 PlacesAlike f g None None = ⊤
 PlacesAlike f g (Some p) (Some q) = Alike f g p q
 PlacesAlike f g p q = ⊥
 
+-- two entered groups that agree
 pub record GroupsAlike (f g : Laid) (a b : Entered) : Type 0 where
   pub delimiter : a.delimiter ≡ b.delimiter
   pub span : a.span ≡ b.span
   pub content : Alike f g a.content b.content
   pub after : Alike f g a.after b.after
 
+-- two entered groups that agree, or none
 abbrev pub EntriesAlike : Laid → Laid → Option Entered → Option Entered → Type 0
 EntriesAlike f g None None = ⊤
 EntriesAlike f g (Some a) (Some b) = GroupsAlike f g a b

@@ -1,6 +1,5 @@
 -- The end of a scope in a filled forest.
-use Rattle.std.proofs.Common.{◌≡◌, refl, ℕ, ◌+◌, true, ◌&&◌, not}
-use Rattle.std.proofs.Common.{List, [], ◌∷◌}
+use Rattle.std.proofs.Common.{◌≡◌, refl, ℕ, ◌+◌, true, ◌&&◌, not, List, [], ◌∷◌}
 use Rattle.std.specs.Prelude.{⊤}
 use Rattle.std.proofs.lemmas.Bool.{and_parts}
 use Rattle.tok_lexical.specs.declared.delimiter.Delimiter.TheVariants as delimiter
@@ -29,6 +28,7 @@ abbrev LevelsFilled : List Frame → Type 0
 LevelsFilled [] = ⊤
 LevelsFilled (frame o p a ∷ ls) = (filled a ≡ true) × LevelsFilled ls
 
+-- no invisible group ahead of the place is empty
 abbrev pub IsFilledPlace : Place → Type 0
 IsFilledPlace empty_place = ⊤
 IsFilledPlace (at n s c l ls) = LevelsFilled (l ∷ ls)

@@ -1,6 +1,5 @@
 -- Entering a visible group depends on the view alone.
-use Rattle.std.proofs.Common.{◌≡◌, ◌∙◌, sym, ap, refl, ◌+◌, []}
-use Rattle.std.proofs.Common.{Option, Some, None}
+use Rattle.std.proofs.Common.{◌≡◌, ◌∙◌, sym, ap, refl, ◌+◌, [], Option, Some, None}
 use Rattle.std.specs.Prelude.{IfSome, option_map}
 use Rattle.tok_lexical.specs.declared.delimiter.Delimiter.{Delimiter}
 use Rattle.tok_core.specs.Forest.{leaf, group, Forest, no_trees, tree}
@@ -12,7 +11,7 @@ use Rattle.tok_buffer.specs.Place.{in_group, frame, Place, empty_place, at, pass
 use Rattle.tok_buffer.specs.View.{entered_view, erased_ahead, IsVisibleDelimiter}
 use Rattle.tok_buffer.specs.View.{View, empty_view, seen, view, visible_after}
 use Rattle.tok_buffer.proofs.View.Erased.{HasScope, in_scope, scope_of, scope-descend}
-use Rattle.tok_buffer.proofs.View.Erased.{erased-leave_finished, leads-scope, view-scope}
+use Rattle.tok_buffer.proofs.View.Erased.{erased-pass, leads-scope, view-scope}
 use Rattle.tok_buffer.proofs.View.InFront.{tells-enter}
 use Rattle.tok_buffer.proofs.View.Keeps.{IsDescended, descended-descend, kept-descend, of-front}
 use Rattle.tok_buffer.proofs.View.Marks.{after-content, IsIn, moved-in}
@@ -23,6 +22,7 @@ abbrev content_in_view : View → EnteredWith Forest → View
 content_in_view empty_view e = empty_view
 content_in_view (seen k d f) e = seen (1 + weight e.after + k) e.delimiter e.content
 
+-- a group, and what is inside and after it, in a scope
 abbrev entry_in_view : View → EnteredWith Forest → EnteredWith View
 entry_in_view v e =
     record {
@@ -32,10 +32,12 @@ entry_in_view v e =
       after = in_scope v e.after;
     }
 
+-- the group that is entered in a view
 abbrev pub enter_in_view : Delimiter → View → Option (EnteredWith View)
 enter_in_view d v = option_map (entry_in_view (scope_of v)) (first_group d (trees_of v))
 
 module _ (g : Forest) (v : View) where
+  -- a group whose view is that of the erased trees
   abbrev IsEntered : Entered → Type 0
   IsEntered e = (view g e.content ≡ content_in_view v (entered_ahead e)) × HasScope g v e.after
 
@@ -51,10 +53,7 @@ module _ (g : Forest) (v : View) where
         ap (λ k. seen k d (erased_ahead content))
             (after-content g n s c o p d u inside span f ls i
             ∙ ap (λ a. 1 + weight a + visible_after g s)
-            (sym
-            (erased-leave_finished n s (c + (2 + weight inside))
-            (frame o (tree (group d inside span) p) f)
-            ls)))
+            (sym (erased-pass n s c o p (group d inside span) f ls)))
             ∙ ap (λ w. content_in_view w (entered_ahead (record {
               delimiter = d;
               span = span;

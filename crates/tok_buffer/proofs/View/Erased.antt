@@ -1,16 +1,17 @@
 -- The scope, and the erased trees ahead, after each move.
-use Rattle.std.proofs.Common.{◌≡◌, ◌∙◌, sym, ap, refl, ℕ, List, [], ◌∷◌}
+use Rattle.std.proofs.Common.{◌≡◌, ◌∙◌, sym, ap, refl, ℕ, List, [], ◌∷◌, ◌+◌}
 use Rattle.tok_core.specs.Erase.{erase}
-use Rattle.tok_core.specs.Forest.{Forest, no_trees, tree}
+use Rattle.tok_core.specs.Forest.{Forest, no_trees, tree, Tree, concat}
 use Rattle.tok_core.proofs.Facts.{joined_assoc}
 use Rattle.tok_buffer.specs.Descent.{descend}
 use Rattle.tok_buffer.specs.Place.{Enclosing, whole, in_group, Frame, frame, Place, empty_place, at}
-use Rattle.tok_buffer.specs.Place.{leave_group, leave_finished}
+use Rattle.tok_buffer.specs.Place.{leave_group, leave_finished, pass}
 use Rattle.tok_buffer.specs.Rest.{frames_delimiter}
 use Rattle.tok_buffer.specs.View.{erased_ahead, erased_in, View, empty_view, seen, view}
 use Rattle.tok_buffer.specs.View.{visible_after}
 use Rattle.tok_buffer.proofs.View.Keeps.{IsKept, kept-leave_finished, kept-descend}
 use Rattle.tok_buffer.proofs.View.Moves.{IsMoved, moved-pass, Leads}
+use Rattle.tok_core.specs.Weight.{tree_weight}
 
 erased-leave_group : (o : Enclosing) (p : Forest) (l : Frame) (ls : List Frame)
     → erased_in (leave_group o p l ∷ ls) ≡ erased_in (l ∷ ls)
@@ -19,6 +20,7 @@ erased-leave_group (in_group d span) p (frame o q a) ls = refl
 
 -- neither settling nor a descent changes the erased trees ahead
 module _ (ahead : Forest) where
+  -- these are the erased trees ahead
   abbrev HasErased : Place → Type 0
   HasErased p = erased_ahead p ≡ ahead
 
@@ -31,13 +33,17 @@ module _ (ahead : Forest) where
 
 pub erased-leave_finished : (n s c : ℕ) (l : Frame) (ls : List Frame)
     → erased_ahead (leave_finished n s c l ls) ≡ erased_in (l ∷ ls)
-erased-leave_finished n s c l ls =
-    kept-leave_finished (HasErased (erased_in (l ∷ ls))) (kept-erased (erased_in (l ∷ ls))) n s c l
-    ls refl
+erased-leave_finished n s c l ls = kept-leave_finished (HasErased _) (kept-erased _) n s c l ls refl
+
+-- past the front tree, those after it are ahead
+pub erased-pass : (n s c : ℕ) (o : Enclosing) (p : Forest) (t : Tree) (f : Forest)
+    (ls : List Frame) → erased_ahead (pass (at n s c (frame o p (tree t f)) ls))
+    ≡ concat (erase f) (erased_in ls)
+erased-pass n s c o p t f ls =
+    erased-leave_finished n s (c + tree_weight t) (frame o (tree t p) f) ls
 
 pub erased-descend : (p : Place) → erased_ahead (descend p) ≡ erased_ahead p
-erased-descend p =
-    kept-descend (HasErased (erased_ahead p)) (kept-erased (erased_ahead p)) p refl
+erased-descend p = kept-descend (HasErased _) (kept-erased _) p refl
 
 one_enclosing : (o : Enclosing) (p q a b : Forest) (ls : List Frame)
     → frames_delimiter (frame o p a) ls ≡ frames_delimiter (frame o q b) ls
@@ -54,11 +60,13 @@ abbrev pub in_scope : View → Forest → View
 in_scope empty_view f = empty_view
 in_scope (seen k d g) f = seen k d f
 
+-- a view's scope, with no trees ahead
 abbrev pub scope_of : View → View
 scope_of v = in_scope v no_trees
 
 -- no move changes the scope
 module _ (g : Forest) (v : View) where
+  -- the place has this scope
   abbrev pub HasScope : Place → Type 0
   HasScope p = scope_of (view g p) ≡ v
 

@@ -1,6 +1,5 @@
 -- What single calls return, by the erased trees ahead.
-use Rattle.std.proofs.Common.{◌≡◌, refl, ℕ, ◌+◌, Bool, true, false, cond, List, []}
-use Rattle.std.proofs.Common.{◌∷◌, Some, None}
+use Rattle.std.proofs.Common.{◌≡◌, refl, ℕ, ◌+◌, Bool, true, false, cond, List, [], ◌∷◌, Some, None}
 use Rattle.std.specs.Prelude.{option_map}
 use Rattle.tok_lexical.specs.declared.delimiter.Delimiter.{Delimiter}
 use Rattle.tok_lexical.specs.declared.delimiter.Delimiter.TheVariants as delimiter
@@ -17,7 +16,7 @@ use Rattle.tok_buffer.specs.Place.{Enclosing, in_group, Frame, frame, Place, emp
 use Rattle.tok_buffer.specs.Place.{leave_finished}
 use Rattle.tok_buffer.specs.View.{erased_ahead, erased_in, IsVisibleDelimiter}
 use Rattle.tok_buffer.proofs.View.Ends.{end_tells}
-use Rattle.tok_buffer.proofs.View.Erased.{erased-descend, erased-leave_finished}
+use Rattle.tok_buffer.proofs.View.Erased.{erased-descend, erased-pass}
 use Rattle.tok_buffer.proofs.View.Keeps.{IsDescended, descended-descend}
 use Rattle.tok_buffer.proofs.View.Places.{reached_stands}
 use Rattle.tok_buffer.proofs.View.Readings.{each_read}
@@ -44,8 +43,7 @@ module _ (n s c : ℕ) (o : Enclosing) (p : Forest) (d : Delimiter) (inside : Fo
         after = concat (erase f) (erased_in ls);
       })) None
   group-ahead true =
-      rw (concat-none (erase inside)) (rw (erased-leave_finished n s (c + (2 + weight inside))
-      (frame o (tree (group d inside span) p) f) ls))
+      rw (concat-none (erase inside), erased-pass n s c o p (group d inside span) f ls)
   group-ahead false = refl
 
 front-ahead : (d : Delimiter) (p : Place) → IsDescended p
@@ -53,13 +51,8 @@ front-ahead : (d : Delimiter) (p : Place) → IsDescended p
 front-ahead d empty_place h = refl
 front-ahead d (at n s c (frame o p (tree (leaf l) f)) ls) h = refl
 front-ahead d (at n s c (frame o p (tree (group delimiter.None inside span) f)) ls) h = absurd h
-front-ahead d (at n s c (frame o p (tree (group delimiter.Parenthesis inside span) f)) ls) h =
-    group-ahead n s c o p delimiter.Parenthesis inside span f ls
-    (same_delimiter d delimiter.Parenthesis)
-front-ahead d (at n s c (frame o p (tree (group delimiter.Brace inside span) f)) ls) h =
-    group-ahead n s c o p delimiter.Brace inside span f ls (same_delimiter d delimiter.Brace)
-front-ahead d (at n s c (frame o p (tree (group delimiter.Bracket inside span) f)) ls) h =
-    group-ahead n s c o p delimiter.Bracket inside span f ls (same_delimiter d delimiter.Bracket)
+front-ahead d (at n s c (frame o p (tree (group e inside span) f)) ls) h =
+    group-ahead n s c o p e inside span f ls (same_delimiter d e)
 front-ahead d (at n s c (frame o p no_trees) []) h = refl
 front-ahead d (at n s c (frame o p no_trees) (l ∷ ls)) h = absurd h
 

@@ -1,6 +1,5 @@
 -- A descent keeps what entering an invisible group keeps, and leaving one.
-use Rattle.std.proofs.Common.{◌≡◌, ℕ, ◌+◌, List, [], ◌∷◌}
-use Rattle.std.proofs.Common.{Option, Some, None, arith, add-zero}
+use Rattle.std.proofs.Common.{◌≡◌, ℕ, ◌+◌, List, [], ◌∷◌, Option, Some, None, arith, add-zero}
 use Rattle.std.specs.Prelude.{MatchOption, IfSome, unwrap_or, ⊤}
 use Rattle.std.specs.Option.{option_or}
 use Rattle.tok_leaves.specs.declared.span.Span.{Span}
@@ -27,6 +26,7 @@ pub record IsKept (P : Place → Type 0) : Type 0 where
       → P (at n s c (frame o p no_trees) (l ∷ ls)) → P (at n s (c + 1) (leave_group o p l) ls)
 
 module _ (P : Place → Type 0) (k : IsKept P) where
+  -- P holds at the place that was found, or else at the other
   abbrev KeptAt : Option Place → Place → Type 0
   KeptAt r q = MatchOption r (P q) (λ p. P p)
 
@@ -43,28 +43,16 @@ module _ (P : Place → Type 0) (k : IsKept P) where
       rw add-zero h
   kept-into_front (tree (leaf l) f) n s c o p ls h = h
   kept-into_front (tree (group delimiter.None inside span) f) n s c o p ls h =
-      let same : reverse_onto (reverse_onto inside no_trees) no_trees
-      ≡ inside = reversed_back inside in
+      let same = reversed_back inside in
       let sums : c + 1 + weight inside + 1 ≡ c + (2 + weight inside) = omega arith in
       let more : c + (2 + weight inside) + weight f ≡ c + (2 + weight inside + weight f) =
       omega arith in
-      kept-either
-      (into_front inside n s (c + 1) (in_group delimiter.None span) no_trees (frame o p f ∷ ls))
-      (into_front f n s (c + (2 + weight inside)) o (tree (group delimiter.None inside span) p) ls)
-      (at n s (c + 1 + weight inside)
-      (frame (in_group delimiter.None span) (reverse_onto inside no_trees) no_trees)
-      (frame o p f ∷ ls))
-      (at n s (c + (2 + weight inside + weight f))
-      (frame o (reverse_onto f (tree (group delimiter.None inside span) p)) no_trees) ls)
-      (kept-into_front inside n s (c + 1) (in_group delimiter.None span) no_trees (frame o p f ∷ ls)
-      (k.into n s c o p inside span f ls h))
+      kept-either _ _ _ _
+      (kept-into_front inside n s (c + 1) _ _ _ (k.into n s c o p inside span f ls h))
       (λ past.
-      let here = rw same at
-      (k.out n s (c + 1 + weight inside) (in_group delimiter.None span)
-      (reverse_onto inside no_trees) (frame o p f) ls past) in
-      rw more at
-      (kept-into_front f n s (c + (2 + weight inside)) o (tree (group delimiter.None inside span) p)
-      ls (rw sums at here)))
+      let here = rw same at (k.out n s (c + 1 + weight inside) _ _ (frame o p f) ls past) in
+      rw more at (kept-into_front f n s (c + (2 + weight inside)) o
+      (tree (group delimiter.None inside span) p) ls (rw sums at here)))
   kept-into_front (tree (group d inside span) f) n s c o p ls h = h
 
   kept-unwrap : (r : Option Place) (x q : Place) → KeptAt r x → (P x → P q) → P (unwrap_or r q)
@@ -74,15 +62,9 @@ module _ (P : Place → Type 0) (k : IsKept P) where
   pub kept-descend_from : (n s c : ℕ) (l : Frame) (ls : List Frame) → P (at n s c l ls)
       → P (descend_from n s c l ls)
   kept-descend_from n s c (frame o p a) [] h =
-      kept-unwrap (into_front a n s c o p [])
-      (at n s (c + weight a) (frame o (reverse_onto a p) no_trees) [])
-      (at n s (c + weight a) (frame o (reverse_onto a p) no_trees) [])
-      (kept-into_front a n s c o p [] h) (λ x. x)
+      kept-unwrap _ _ _ (kept-into_front a n s c o p [] h) (λ x. x)
   kept-descend_from n s c (frame o p a) (l ∷ ls) h =
-      kept-unwrap (into_front a n s c o p (l ∷ ls))
-      (at n s (c + weight a) (frame o (reverse_onto a p) no_trees) (l ∷ ls))
-      (descend_from n s (c + weight a + 1) (leave_group o (reverse_onto a p) l) ls)
-      (kept-into_front a n s c o p (l ∷ ls) h)
+      kept-unwrap _ _ _ (kept-into_front a n s c o p (l ∷ ls) h)
       (λ x. kept-descend_from n s (c + weight a + 1) (leave_group o (reverse_onto a p) l) ls
       (k.out n s (c + weight a) o (reverse_onto a p) l ls x))
 
@@ -97,11 +79,12 @@ module _ (P : Place → Type 0) (k : IsKept P) where
       kept-leave_finished n s (c + 1) (leave_group o p m) ls (k.out n s c o p m ls h)
   kept-leave_finished n s c (frame o p (tree t f)) (m ∷ ls) h = h
 
--- After a descent a visible tree is in front, or the place is at its scope's end.
+-- a leaf, or a visible group
 abbrev pub IsVisible : Tree → Type 0
 IsVisible (leaf l) = ⊤
 IsVisible (group d inside span) = IsVisibleDelimiter d
 
+-- after a descent a visible tree is in front, or the place is at its scope's end
 abbrev pub IsDescended : Place → Type 0
 IsDescended empty_place = ⊤
 IsDescended (at n s c (frame o p (tree t f)) ls) = IsVisible t
@@ -118,13 +101,8 @@ descended-into_front : (f : Forest) (n s c : ℕ) (o : Enclosing) (p : Forest) (
 descended-into_front no_trees n s c o p ls = tt
 descended-into_front (tree (leaf l) f) n s c o p ls = tt
 descended-into_front (tree (group delimiter.None inside span) f) n s c o p ls =
-    descended-either
-    (into_front inside n s (c + 1) (in_group delimiter.None span) no_trees (frame o p f ∷ ls))
-    (into_front f n s (c + (2 + weight inside)) o (tree (group delimiter.None inside span) p) ls)
-    (descended-into_front inside n s (c + 1) (in_group delimiter.None span) no_trees
-    (frame o p f ∷ ls))
-    (descended-into_front f n s (c + (2 + weight inside)) o
-    (tree (group delimiter.None inside span) p) ls)
+    descended-either _ _ (descended-into_front inside n s (c + 1) _ _ _)
+    (descended-into_front f n s (c + (2 + weight inside)) o _ ls)
 descended-into_front (tree (group d inside span) f) n s c o p ls = tt
 
 descended-unwrap : (r : Option Place) (q : Place) → IfSome r IsDescended → IsDescended q
@@ -135,14 +113,9 @@ descended-unwrap None q a b = b
 descended-descend_from : (n s c : ℕ) (l : Frame) (ls : List Frame)
     → IsDescended (descend_from n s c l ls)
 descended-descend_from n s c (frame o p a) [] =
-    descended-unwrap (into_front a n s c o p [])
-    (at n s (c + weight a) (frame o (reverse_onto a p) no_trees) [])
-    (descended-into_front a n s c o p []) tt
+    descended-unwrap _ _ (descended-into_front a n s c o p []) tt
 descended-descend_from n s c (frame o p a) (l ∷ ls) =
-    descended-unwrap
-    (into_front a n s c o p (l ∷ ls))
-    (descend_from n s (c + weight a + 1) (leave_group o (reverse_onto a p) l) ls)
-    (descended-into_front a n s c o p (l ∷ ls))
+    descended-unwrap _ _ (descended-into_front a n s c o p (l ∷ ls))
     (descended-descend_from n s (c + weight a + 1) (leave_group o (reverse_onto a p) l) ls)
 
 pub descended-descend : (p : Place) → IsDescended (descend p)

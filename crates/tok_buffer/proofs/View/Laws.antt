@@ -1,6 +1,5 @@
 -- Invisible groups do not matter to a single call: the proofs.
-use Rattle.std.proofs.Common.{◌≡◌, sym, refl}
-use Rattle.std.proofs.Common.{Option, Some, None, ℕ}
+use Rattle.std.proofs.Common.{◌≡◌, sym, refl, Option, Some, None, ℕ}
 use Rattle.std.specs.Prelude.{IfSome}
 use Rattle.tok_lexical.specs.declared.delimiter.Delimiter.{Delimiter}
 use Rattle.tok_lexical.specs.declared.delimiter.Delimiter.TheVariants as delimiter
@@ -78,6 +77,7 @@ module _ (b : Laid) where
   entry_after (at n s c (frame o p (tree (leaf l) f)) ls) = tt
   entry_after (at n s c (frame o p (tree (group d inside span) f)) ls) = refl
 
+  -- a group's content and the place after it are reached
   abbrev BothReached : Entered → Type 0
   BothReached e = Reached b e.content × Reached b e.after
 

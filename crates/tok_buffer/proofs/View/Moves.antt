@@ -46,9 +46,11 @@ pub record Leads (P Q : Place → Type 0) : Type 0 where
   pub past : (p : Place) (t : Tree) → front p ≡ Some t → P p → Q (pass p)
   pub weaker : (p : Place) → Q p → P p
 
+-- Q holds at the place after a read, if something is read
 abbrev pub LeadsTo : (Place → Type 0) → Option (List Tree × Place) → Type 0
 LeadsTo Q r = IfSome r (λ x. Q x.1)
 
+-- Q holds at the place, if there is one
 abbrev pub LeadsAfter : (Place → Type 0) → Option Place → Type 0
 LeadsAfter Q r = IfSome r Q
 
@@ -102,6 +104,7 @@ abbrev pub IsEmpty : Place → Type 0
 IsEmpty empty_place = ⊤
 IsEmpty (at n s c l ls) = ⊥
 
+-- no place is one
 abbrev pub IsNone : Place → Type 0
 IsNone p = ⊥
 

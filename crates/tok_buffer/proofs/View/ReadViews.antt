@@ -16,6 +16,7 @@ use Rattle.tok_buffer.proofs.View.Tells.{past_first, skip_tells, tells, trees_of
 abbrev pub in_view : First → View → Option (List Tree × View)
 in_view first v = option_map (λ r. (r.0, in_scope (scope_of v) r.1)) (first (trees_of v))
 
+-- a skip in a view
 abbrev pub skip_in_view : View → Option View
 skip_in_view v = option_map (in_scope (scope_of v)) (past_first (trees_of v))
 

@@ -13,6 +13,7 @@ use Rattle.tok_buffer.proofs.View.Spans.{tree_count, length_ahead}
 use Rattle.tok_buffer.proofs.View.Readings.{Reading, never, one, more}
 use Rattle.std.proofs.lemmas.Bool.{cond_both}
 
+-- fewer trees are left than there were
 abbrev Shortens : Forest → Option (List Tree × Forest) → Type 0
 Shortens f r = IfSome r (λ x. tree_count x.1 + 1 ≤ tree_count f)
 
@@ -36,6 +37,7 @@ shortens (one wanted leaves) f = shortens-if wanted f
 shortens (more wanted leaves g h r) f =
     shortens-then f (first_if wanted f) h (shortens-if wanted f) (shortens r)
 
+-- fewer trees are ahead after a read
 abbrev pub LeavesFewer : Place → Option (List Tree × Place) → Type 0
 LeavesFewer p r = IfSome r (λ x. length (marked_ahead x.1) + 1 ≤ length (marked_ahead p))
 

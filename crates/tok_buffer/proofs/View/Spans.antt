@@ -16,10 +16,12 @@ use Rattle.tok_buffer.specs.SameView.{leftover_span}
 use Rattle.tok_buffer.specs.View.{erased_ahead, erased_in, view}
 use Rattle.tok_buffer.proofs.View.Tells.{same_trees}
 
+-- the spans of the trees of a forest
 abbrev spans_of : Forest → List Span
 spans_of no_trees = []
 spans_of (tree t f) = tree_span t ∷ spans_of f
 
+-- the spans of marked trees
 abbrev span_list : List (Bool × Tree) → List Span
 span_list ts = map (λ t. tree_span t.1) ts
 
@@ -43,6 +45,7 @@ spans-ahead : (p : Place) → span_list (marked_ahead p) ≡ spans_of (erased_ah
 spans-ahead empty_place = refl
 spans-ahead (at n s c l ls) = spans-frames (l ∷ ls)
 
+-- how many trees a forest has, those inside groups aside
 abbrev pub tree_count : Forest → ℕ
 tree_count f = length (spans_of f)
 
@@ -54,6 +57,7 @@ pub same_length : (f g : Forest) (p q : Place) → view f p ≡ view g q
 same_length f g p q e =
     cc (length_ahead p, same_trees f g p q e, length_ahead q)
 
+-- the first span, if there is one
 abbrev first_span : List Span → Option Span
 first_span [] = None
 first_span (x ∷ xs) = Some x

@@ -1,6 +1,5 @@
 -- What holds of each place that is reached.
-use Rattle.std.proofs.Common.{◌≡◌, ◌∙◌, sym, ap, refl, ℕ, ◌+◌, ◌==◌, ◌&&◌, inl, inr, [], ◌∷◌}
-use Rattle.std.proofs.Common.{arith}
+use Rattle.std.proofs.Common.{◌≡◌, ◌∙◌, sym, ap, refl, ℕ, ◌+◌, ◌==◌, ◌&&◌, inl, inr, [], ◌∷◌, arith}
 use Rattle.std.proofs.lemmas.Bool.Decides.{nat_tests}
 use Rattle.std.specs.Prelude.{⊤, IfSome, true}
 use Rattle.std.proofs.lemmas.Bool.{and_parts}
@@ -14,8 +13,7 @@ use Rattle.tok_core.proofs.Facts.{filled_tree}
 use Rattle.tok_buffer.specs.Descent.{descend}
 use Rattle.tok_buffer.specs.Entry.{Entered, enter, enter_any}
 use Rattle.tok_buffer.specs.Order.{same_scope}
-use Rattle.tok_buffer.specs.Place.{whole, in_group, frame, Place, empty_place, at}
-use Rattle.tok_buffer.specs.Place.{start, pass}
+use Rattle.tok_buffer.specs.Place.{whole, in_group, frame, Place, empty_place, at, start, pass}
 use Rattle.tok_buffer.specs.View.{IsVisibleDelimiter, one_scope_in_view, view, visible_after}
 use Rattle.tok_buffer.proofs.View.Ends.{IsSettled, is_settled, IsFilledPlace, kept-filled}
 use Rattle.tok_buffer.proofs.View.Keeps.{of-front, kept-descend, IsDescended, descended-descend}
@@ -28,11 +26,13 @@ abbrev IsScoped : ℕ → Forest → Place → Type 0
 IsScoped number f empty_place = ⊤
 IsScoped number f (at n s c l ls) = (n ≡ number) × IsScopeEnd f s
 
+-- what each move keeps
 pub record Holds (number : ℕ) (f : Forest) (p : Place) : Type 0 where
   pub filled : IsFilledPlace p
   pub inside : IsIn f p
   pub scoped : IsScoped number f p
 
+-- what holds of each place that is reached
 pub record Stands (number : ℕ) (f : Forest) (p : Place) : Type 0 where
   pub settled : IsSettled p
   pub holds : Holds number f p

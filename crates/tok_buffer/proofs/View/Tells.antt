@@ -1,12 +1,10 @@
 -- What a read takes, and a skip passes, of the erased trees ahead.
-use Rattle.std.proofs.Common.{◌≡◌, ap, refl, ◌+◌, Bool, List, []}
-use Rattle.std.proofs.Common.{◌∷◌, ◌++◌, Option, Some, None}
+use Rattle.std.proofs.Common.{◌≡◌, refl, Bool, List, [], ◌∷◌, ◌++◌, Option, Some, None, inl, inr}
 use Rattle.std.specs.Prelude.{option_map}
 use Rattle.tok_lexical.specs.declared.delimiter.Delimiter.TheVariants as delimiter
 use Rattle.tok_core.specs.Clear.{is_joint_apostrophe}
 use Rattle.tok_core.specs.Erase.{erase}
 use Rattle.tok_core.specs.Forest.{Tree, leaf, group, Forest, no_trees, tree}
-use Rattle.tok_core.specs.Weight.{weight}
 use Rattle.tok_buffer.specs.Descent.{descend}
 use Rattle.tok_buffer.specs.EachRead.{Read, First, first_if, and_first}
 use Rattle.tok_buffer.specs.InFront.{with_ahead}
@@ -14,11 +12,9 @@ use Rattle.tok_buffer.specs.Place.{frame, Place, empty_place, at}
 use Rattle.tok_buffer.specs.Reads.{read_if, read_then, any_text, is_ident_of, place_after, read_tree}
 use Rattle.tok_buffer.specs.Reads.{read_lifetime, skip}
 use Rattle.tok_buffer.specs.View.{erased_ahead, View, empty_view, seen, view}
-use Rattle.tok_buffer.proofs.View.Erased.{erased-descend, erased-leave_finished}
+use Rattle.tok_buffer.proofs.View.Erased.{erased-descend, erased-pass}
 use Rattle.tok_buffer.proofs.View.Keeps.{IsDescended, descended-descend}
-use Rattle.tok_buffer.proofs.View.Readings.{Reading, never, one, more, IsOfLeaves}
-use Rattle.tok_buffer.proofs.View.Readings.{of_lifetime}
-use Rattle.std.proofs.Common.{inl, inr}
+use Rattle.tok_buffer.proofs.View.Readings.{Reading, never, one, more, IsOfLeaves, of_lifetime}
 use Rattle.std.proofs.lemmas.Bool.{cases_Bool}
 
 -- the trees of a view
@@ -39,7 +35,7 @@ tells-take : (wanted : Tree → Bool) → IsOfLeaves wanted → (p : Place) → 
     → with_ahead (read_if wanted p) ≡ first_if wanted (erased_ahead p)
 tells-take wanted leaves empty_place h = refl
 tells-take wanted leaves (at n s c (frame o p (tree (leaf l) a)) ls) h =
-    let same = erased-leave_finished n s (c + 1) (frame o (tree (leaf l) p) a) ls in
+    let same = erased-pass n s c o p (leaf l) a ls in
     elim (cases_Bool (wanted (leaf l))) [ inl e ↦ simp e (cc) | inr e ↦ simp e ]
 tells-take wanted leaves (at n s c (frame o p (tree (group delimiter.None inside span) a)) ls) h =
     absurd h
@@ -79,6 +75,7 @@ abbrev pub past_front : Forest → Option Forest
 past_front no_trees = None
 past_front (tree t f) = Some f
 
+-- the trees after the first token
 abbrev pub past_first : Forest → Option Forest
 past_first f =
     elim (and_first (first_if is_joint_apostrophe f) (first_if (is_ident_of any_text))) [
@@ -92,12 +89,10 @@ front-tells empty_place h = refl
 front-tells (at n s c (frame o p no_trees) []) h = refl
 front-tells (at n s c (frame o p no_trees) (l ∷ ls)) h = absurd h
 front-tells (at n s c (frame o p (tree (leaf l) f)) ls) h =
-    ap Some (erased-leave_finished n s (c + 1) (frame o (tree (leaf l) p) f) ls)
+    rw (erased-pass n s c o p (leaf l) f ls)
 front-tells (at n s c (frame o p (tree (group delimiter.None inside span) f)) ls) h = absurd h
 front-tells (at n s c (frame o p (tree (group d inside span) f)) ls) h =
-    ap Some
-    (erased-leave_finished n s (c + (2 + weight inside)) (frame o (tree (group d inside span) p) f)
-    ls)
+    rw (erased-pass n s c o p (group d inside span) f ls)
 
 either-tells : (x : Option (List Tree × Place)) (y : Option Place)
     (v : Option (List Tree × Forest)) (w : Option Forest) → with_ahead x ≡ v

@@ -1,6 +1,5 @@
 -- The visible trees ahead as a forest.
-use Rattle.std.proofs.Common.{◌≡◌, ◌∙◌, sym, refl, ℕ, Bool, true, false, List, []}
-use Rattle.std.proofs.Common.{◌∷◌, ◌++◌, map}
+use Rattle.std.proofs.Common.{◌≡◌, ◌∙◌, sym, refl, ℕ, Bool, true, false, List, [], ◌∷◌, ◌++◌, map}
 use Rattle.tok_lexical.specs.declared.delimiter.Delimiter.TheVariants as delimiter
 use Rattle.tok_core.specs.Forest.{Tree, leaf, group, Forest, no_trees, tree, forest, concat}
 use Rattle.tok_core.proofs.Facts.{joined_assoc}
@@ -17,10 +16,12 @@ unmarked (tree (leaf l) f) = tree (leaf l) (unmarked f)
 unmarked (tree (group delimiter.None inside span) f) = concat (unmarked inside) (unmarked f)
 unmarked (tree (group d inside span) f) = tree (group d inside span) (unmarked f)
 
+-- the visible trees ahead in each frame
 abbrev pub unmarked_in : List Frame → Forest
 unmarked_in [] = no_trees
 unmarked_in (frame o p a ∷ ls) = concat (unmarked a) (unmarked_in ls)
 
+-- the visible trees ahead of a place
 abbrev pub trees_ahead : Place → Forest
 trees_ahead empty_place = no_trees
 trees_ahead (at n s c l ls) = unmarked_in (l ∷ ls)
@@ -32,6 +33,7 @@ unmarked_in-leave_group (in_group d span) p (frame o q a) ls = refl
 
 -- neither settling nor a descent changes the trees ahead
 module _ (marked_ahead : Forest) where
+  -- these are the trees ahead
   abbrev HasAhead : Place → Type 0
   HasAhead p = trees_ahead p ≡ marked_ahead
 
@@ -46,12 +48,10 @@ module _ (marked_ahead : Forest) where
 pub trees_ahead-leave_finished : (n s c : ℕ) (l : Frame) (ls : List Frame)
     → trees_ahead (leave_finished n s c l ls) ≡ unmarked_in (l ∷ ls)
 trees_ahead-leave_finished n s c l ls =
-    kept-leave_finished (HasAhead (unmarked_in (l ∷ ls))) (kept-ahead (unmarked_in (l ∷ ls))) n s c
-    l ls
-    refl
+    kept-leave_finished (HasAhead _) (kept-ahead _) n s c l ls refl
 
 pub trees_ahead-descend : (p : Place) → trees_ahead (descend p) ≡ trees_ahead p
-trees_ahead-descend p = kept-descend (HasAhead (trees_ahead p)) (kept-ahead (trees_ahead p)) p refl
+trees_ahead-descend p = kept-descend (HasAhead _) (kept-ahead _) p refl
 
 -- the list of trees ahead, without its marks
 abbrev pub plain : List (Bool × Tree) → Forest

@@ -4,17 +4,14 @@ use Rattle.tok_buffer.specs.Buffer.{forest_of}
 use Rattle.tok_buffer.proofs.Reading.{kept_follows, same_reading}
 use Rattle.tok_buffer.proofs.laws.marked_as_stream.Goals as goal
 
-pub returns-clause-same : goal.returns-clause-same
-returns-clause-same c =
-    let text = chars c.args.text.now in
-    let follows = kept_follows 0 Marked c.args.source text c.lex_marked.result
-    (forest_of c.laid_out-laid.result) c.laid_out-laid.ensures.kept c.lex_marked.ensures
-    in
-    same_reading 0 Marked c.args.source text c.from_marked-read.result
-    c.laid_out-laid.result c.args.number c.from_marked-read.ensures.number
-    c.laid_out-laid.ensures.number c.from_marked-read.ensures.follows follows
-
 pub returns-clause-lexed : goal.returns-clause-lexed
 returns-clause-lexed c =
     kept_follows 0 Marked c.args.source (chars c.args.text.now) c.lex_marked.result
     (forest_of c.laid_out-laid.result) c.laid_out-laid.ensures.kept c.lex_marked.ensures
+
+pub returns-clause-same : goal.returns-clause-same
+returns-clause-same c =
+    let follows = kept_follows 0 Marked _ _ _ _ c.laid_out-laid.ensures.kept c.lex_marked.ensures in
+    same_reading 0 Marked c.args.source (chars c.args.text.now) c.from_marked-read.result
+    c.laid_out-laid.result c.args.number c.from_marked-read.ensures.number
+    c.laid_out-laid.ensures.number c.from_marked-read.ensures.follows follows

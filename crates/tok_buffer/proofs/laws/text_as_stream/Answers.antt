@@ -4,16 +4,14 @@ use Rattle.tok_buffer.specs.Buffer.{forest_of}
 use Rattle.tok_buffer.proofs.Reading.{kept_follows, same_reading}
 use Rattle.tok_buffer.proofs.laws.text_as_stream.Goals as goal
 
-pub returns-clause-same : goal.returns-clause-same
-returns-clause-same c =
-    let text = chars c.args.text.now in
-    let follows = kept_follows 0 Plain c.args.source text c.lex.result
-    (forest_of c.laid_out-laid.result) c.laid_out-laid.ensures.kept c.lex.ensures in
-    same_reading 0 Plain c.args.source text c.from_text-read.result c.laid_out-laid.result
-    c.args.number c.from_text-read.ensures.number c.laid_out-laid.ensures.number
-    c.from_text-read.ensures.follows follows
-
 pub returns-clause-lexed : goal.returns-clause-lexed
 returns-clause-lexed c =
     kept_follows 0 Plain c.args.source (chars c.args.text.now) c.lex.result
     (forest_of c.laid_out-laid.result) c.laid_out-laid.ensures.kept c.lex.ensures
+
+pub returns-clause-same : goal.returns-clause-same
+returns-clause-same c =
+    let follows = kept_follows 0 Plain _ _ _ _ c.laid_out-laid.ensures.kept c.lex.ensures in
+    same_reading 0 Plain c.args.source (chars c.args.text.now) c.from_text-read.result
+    c.laid_out-laid.result c.args.number c.from_text-read.ensures.number
+    c.laid_out-laid.ensures.number c.from_text-read.ensures.follows follows

@@ -3,11 +3,10 @@ use Rattle.tok_buffer.proofs.Levels.{leaf_built, leaf_shown}
 use Rattle.tok_buffer.proofs.builder.EntryBuilderBuild.ident.Goals as goal
 
 pub invariant_of-self-2 : goal.invariant_of-self-2
-invariant_of-self-2 c = leaf_built c.self.inside.entries.items c.push.new.self.items
-    c.self.inside.«open».items (ident_of c.args.ident) c.self.invariant
-    c.in_ok-push.ensures.items
+invariant_of-self-2 c =
+    leaf_built _ _ _ (ident_of c.args.ident) c.self.invariant c.in_ok-push.ensures.items
 
 pub returns-clause-ok : goal.returns-clause-ok
-returns-clause-ok c = leaf_shown c.self.inside.entries.items c.push.new.self.items
-    c.self.inside.«open».items (ident_of c.args.ident) c.self.invariant
-    c.in_ok-push.ensures.items c.args.self.now c.self.view_is
+returns-clause-ok c =
+    leaf_shown _ _ _ (ident_of c.args.ident) c.self.invariant c.in_ok-push.ensures.items _
+    c.self.view_is

@@ -25,8 +25,7 @@ returns-in_err-spot c =
 pub loop-span-preserved : goal.loop-span-preserved
 loop-span-preserved c =
     let i = c.loop-span in
-    let more = so_far_more (chars c.args.text.now) (place_of c.args.self) i.span-index i.spans
-    (chars i.rest.now) (spot_place i.spot) i.invariant.1 c.in-Some.wanted
+    let more = so_far_more _ _ i.span-index i.spans _ _ i.invariant.1 c.in-Some.wanted
     (chars c.in-Some.after.now) (leaf (punct_of c.in-Some-next_of.punct.now))
     (spot_place c.in-Some-next_of.ahead) in (
       c.in-Some.ensures.utf8,

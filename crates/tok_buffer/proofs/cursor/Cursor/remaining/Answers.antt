@@ -1,12 +1,11 @@
 use Rattle.std.proofs.Common.{arith}
 use Rattle.tok_buffer.specs.Cursors.{spot_place}
 use Rattle.tok_buffer.proofs.Counted.{spot-left, visible-left}
-use Rattle.tok_buffer.proofs.InScope.{before_scope}
 use Rattle.tok_buffer.proofs.cursor.Cursor.remaining.Goals as goal
+use Rattle.tok_buffer.proofs.Spots.{spot_before}
 
 pub overflow_sub-result : goal.overflow_sub-result
-overflow_sub-result c =
-    let s = c.in-Some.spot in before_scope s.buffer.now.forest s.position s.scope s.within
+overflow_sub-result c = spot_before c.in-Some.spot
 
 pub returns-in-Some-clause-counts : goal.returns-in-Some-clause-counts
 returns-in-Some-clause-counts c = rw c.in-Some.is (spot-left c.in-Some.spot)

@@ -40,6 +40,8 @@ pub returns : goal.returns
 returns t c =
     let i = c.loop-position.invariant in
     let b = c.args.buffer.now in
-    sym (concat-none c.loop-position.stream)
-    ∙ ap (concat c.loop-position.stream) (sym (rest_done b.number b.forest c.loop-position.position
-    c.args.scope i.within c.loop-position-test.false)) ∙ i.same
+    rw (
+      rest_done b.number b.forest c.loop-position.position c.args.scope i.within
+          c.loop-position-test.false,
+      concat-none,
+    ) at i.same
