@@ -129,13 +129,11 @@ module _ (e : ℕ) (x : Forest) where
   }
 
 trees-descend : (e : ℕ) (p : Place) → erase (trees_to e (descend p)) ≡ erase (trees_to e p)
-trees-descend e p =
-    kept-descend (HasTrees e _) (kept-trees e _) p refl
+trees-descend e p = kept-descend (HasTrees e _) (kept-trees e _) p refl
 
 trees-settled : (e k s n : ℕ) (l : Frame) (us : List Frame)
     → erase (trees_to e (leave_finished k s n l us)) ≡ erase (trees_to e (at k s n l us))
-trees-settled e k s n l us =
-    kept-leave_finished (HasTrees e _) (kept-trees e _) k s n l us refl
+trees-settled e k s n l us = kept-leave_finished (HasTrees e _) (kept-trees e _) k s n l us refl
 
 -- in this buffer and scope, and no earlier
 abbrev Later : ℕ → ℕ → ℕ → Place → Type 0
@@ -212,8 +210,7 @@ record Splits (p q : Place) : Type 0 where
   ahead : erased_ahead p ≡ concat (erase (trees_to (count_of q) p)) (erased_ahead q)
 
 splits_here : (p : Place) → Splits p p
-splits_here p =
-    record { trees = λ e h. rw (to_here p); ahead = rw (to_here p) }
+splits_here p = record { trees = λ e h. rw (to_here p); ahead = rw (to_here p) }
 
 module _ (p q r : Place) (u : Forest) (so : Splits p q) (move : Goes q u r) where
   taken : erase (trees_to (count_of r) p) ≡ concat (erase (trees_to (count_of q) p)) u
@@ -223,8 +220,7 @@ module _ (p q r : Place) (u : Forest) (so : Splits p q) (move : Goes q u r) wher
 
   along : (g h : Forest) → h ≡ concat u g
       → concat (erase (trees_to (count_of q) p)) h ≡ concat (erase (trees_to (count_of r) p)) g
-  along g h e =
-      rw (e, taken, joined_assoc)
+  along g h e = rw (e, taken, joined_assoc)
 
   then_splits : Splits p r
   then_splits =
@@ -254,14 +250,12 @@ same_and k i s t e h = grind arith
 later_between : (k s n : ℕ) (l : Frame) (us : List Frame) (q : Place) → Later k s n q
     → between (at k s n l us) q ≡ trees_to (count_of q) (at k s n l us)
 later_between k s n l us empty_place h = absurd h
-later_between k s n l us (at i t d m vs) h =
-    simp (same_and k i s t h.0 h.1)
+later_between k s n l us (at i t d m vs) h = simp (same_and k i s t h.0 h.1)
 
 pub between_is : (p q : Place) → Follows p q → between p q ≡ trees_to (count_of q) p
 between_is empty_place empty_place h = refl
 between_is empty_place (at i t d m vs) h = refl
-between_is (at k s n l us) q h =
-    later_between k s n l us q (later_follows k s n l us q h)
+between_is (at k s n l us) q h = later_between k s n l us q (later_follows k s n l us q h)
 
 -- where a cursor in the same scope is
 abbrev pub cursor_place : Option Spot → Place

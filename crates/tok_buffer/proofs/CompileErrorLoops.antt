@@ -23,5 +23,4 @@ errors_step items i m old new all h is e before =
 
 pub errors_done : (items : List (Box Message)) (i : ℕ) (old all : Forest) → length items ≤ i →
     concat old (compile_errors (unboxed (drop i items))) ≡ all → old ≡ all
-errors_done items i old all h before =
-    rw (drop_of_length-le items h, concat-none) at before
+errors_done items i old all h before = rw (drop_of_length-le items h, concat-none) at before

@@ -43,10 +43,8 @@ descend_from_is k s n o p f (l ∷ ls) = refl
 after_group : (k s n m : ℕ) (o : Enclosing) (p : Forest) (t : Tree) (f : Forest) (ls : List Frame) →
     m + weight f ≡ n + weight (tree t f) → after k s m o (tree t p) f ls
     ≡ after k s n o p (tree t f) ls
-after_group k s n m o p t f [] e =
-    rw e
-after_group k s n m o p t f (l ∷ ls) e =
-    rw e
+after_group k s n m o p t f [] e = rw e
+after_group k s n m o p t f (l ∷ ls) e = rw e
 
 into_step : (k s n : ℕ) (o : Enclosing) (p c : Forest) (span : Span) (f : Forest) (ls : List Frame)
     →

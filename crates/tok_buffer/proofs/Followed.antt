@@ -35,8 +35,7 @@ module _ (read : Read) (on : (p : Place) → LeadsTo (Follows p) (read p)) where
   read_follows p ts q e = rw e at (on p)
 
 skip_follows : (p q : Place) → skip p ≡ Some q → Follows p q
-skip_follows p q e =
-    rw e at (leads-skip (Follows p) (Follows p) (follows_on p) p from_here)
+skip_follows p q e = rw e at (leads-skip (Follows p) (Follows p) (follows_on p) p from_here)
 
 any_follows : (p : Place) → IfSome (enter_any p) (λ e. Follows p e.after)
 any_follows empty_place = tt

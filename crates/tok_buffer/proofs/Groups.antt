@@ -86,8 +86,7 @@ module _ (F : Forest) (n s : ℕ) (g : Sort) (m : ℕ) (h : in_scope F n s ≡ t
   no_outer = rw ends
 
   pub held_settled : settled_at F (n + 1) (n + m) ≡ true
-  held_settled =
-      rw (inside, no_outer) (root_settled inner)
+  held_settled = rw (inside, no_outer) (root_settled inner)
 
   pub inside_place : (k : ℕ) → place_at k F (n + 1) (n + m)
       ≡ at k (n + 1 + weight held.0) (n + 1) inner []

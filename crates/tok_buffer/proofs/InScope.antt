@@ -122,15 +122,13 @@ scope_end n s (frame o p (tree (leaf i) f)) us h e = absurd (omega (arith, ends_
 scope_end n s (frame o p (tree (group d c t) f)) us h e =
     absurd (omega (arith, ends_later _ s us h, e))
 scope_end n s (frame o p no_trees) [] h e = (refl, refl)
-scope_end n s (frame o p no_trees) (u ∷ us) h e =
-    (refl, rw (eq-eqb (n + 0) s (omega (arith, e))))
+scope_end n s (frame o p no_trees) (u ∷ us) h e = (refl, rw (eq-eqb (n + 0) s (omega (arith, e))))
 
 leave_finished_end : (k n s : ℕ) (l : Frame) (us : List Frame) → In n s (l, us) → n ≢ s →
     at_end (frame_ahead l) ≡ true → settled (advance (seen k s n (l, us)))
     ≡ settled (seen k s n (l, us))
 leave_finished_end k n s (frame o p (tree t f)) us h ne q = absurd (false≢true q)
-leave_finished_end k n s (frame o p no_trees) us h ne q =
-    rw (outer_seen n s o p us h ne).2 refl
+leave_finished_end k n s (frame o p no_trees) us h ne q = rw (outer_seen n s o p us h ne).2 refl
 
 -- one move within a scope
 pub place_step : (k n s : ℕ) (F : Forest) → in_scope F n s ≡ true → n ≢ s →
@@ -151,8 +149,7 @@ leave_finished_step k n s F h ne q =
     (t.0, ap settled t.1 ∙ leave_finished_end k n s x.0 x.1 h ne q)
 
 pub before_scope : (F : Forest) (n s : ℕ) → in_scope F n s ≡ true → n ≤ s
-before_scope F n s h =
-    let x = frames_at F n in omega (arith, ends_later (end_of n x.0) s x.1 h)
+before_scope F n s h = let x = frames_at F n in omega (arith, ends_later (end_of n x.0) s x.1 h)
 
 pub place_settled : (k n s : ℕ) (F : Forest) → settled_at F n s ≡ true →
     settled (place_at k F n s) ≡ place_at k F n s

@@ -33,8 +33,7 @@ rest-settled k s n (frame o p no_trees) (u ∷ us) =
     rw (← rest-left o p u us) (rest-settled k s (n + 1) (leave_group o p u) us)
 rest-settled k s n (frame o p (tree t f)) (u ∷ us) = refl
 
-count-settled : (k s n : ℕ) (l : Frame) (us : List Frame)
-    → n ≤ count_of (leave_finished k s n l us)
+count-settled : (k s n : ℕ) (l : Frame) (us : List Frame) → n ≤ count_of (leave_finished k s n l us)
 count-settled k s n l [] = omega arith
 count-settled k s n (frame o p no_trees) (u ∷ us) =
     omega (arith, count-settled k s (n + 1) (leave_group o p u) us)
@@ -43,13 +42,11 @@ count-settled k s n (frame o p (tree t f)) (u ∷ us) = omega arith
 -- the trees up to a place, and then those after it
 record Joins (p q : Place) : Type 0 where
   follows : Follows p q
-  trees : (e : ℕ) → count_of q ≤ e
-      → trees_to e p ≡ concat (trees_to (count_of q) p) (trees_to e q)
+  trees : (e : ℕ) → count_of q ≤ e → trees_to e p ≡ concat (trees_to (count_of q) p) (trees_to e q)
   all : rest p ≡ concat (trees_to (count_of q) p) (rest q)
 
 joins-here : (p : Place) → Joins p p
-joins-here p =
-    record { follows = from_here; trees = λ e h. rw (to_here p); all = rw (to_here p) }
+joins-here p = record { follows = from_here; trees = λ e h. rw (to_here p); all = rw (to_here p) }
 
 module _ (p : Place) (k s n : ℕ) (o : Enclosing) (b : Forest) (t : Tree) (f : Forest)
     (us : List Frame) (so : Joins p (at k s n (frame o b (tree t f)) us)) where
@@ -62,17 +59,14 @@ module _ (p : Place) (k s n : ℕ) (o : Enclosing) (b : Forest) (t : Tree) (f : 
 
   one : (e : ℕ) → n + tree_weight t ≤ e
       → trees_to e (at k s n (frame o b (tree t f)) us) ≡ tree t (trees_to e after)
-  one e h =
-      rw trees-settled (to_tree e k s n o b t f us h)
+  one e h = rw trees-settled (to_tree e k s n o b t f us h)
 
   taken : trees_to (count_of after) p ≡ concat (trees_to n p) (tree t no_trees)
   taken =
       rw (so.trees (count_of after) (omega (arith, far)), one (count_of after) far, to_here after)
 
-  onwards : (g : Forest)
-      → concat (trees_to n p) (tree t g) ≡ concat (trees_to (count_of after) p) g
-  onwards g =
-      rw (taken, joined_assoc)
+  onwards : (g : Forest) → concat (trees_to n p) (tree t g) ≡ concat (trees_to (count_of after) p) g
+  onwards g = rw (taken, joined_assoc)
 
   joins-past : Joins p after
   joins-past = record {

@@ -27,12 +27,10 @@ as_leaf-entry (punct c spacing span) = refl
 as_leaf-entry (literal text span) = refl
 
 pub same_leaf : (l m : Leaf) → leaf_entry l ≡ leaf_entry m → l ≡ m
-same_leaf l m e =
-    let h : Some l ≡ Some m = cc (as_leaf-entry l, as_leaf-entry m) in cc
+same_leaf l m e = let h : Some l ≡ Some m = cc (as_leaf-entry l, as_leaf-entry m) in cc
 
 pub not_leaf : (x : Entry) (l : Leaf) → as_leaf x ≡ None → leaf_entry l ≡ x → ⊥
-not_leaf x l q e =
-    let h : Some l ≡ None = cc (as_leaf-entry l) in cc
+not_leaf x l q e = let h : Some l ≡ None = cc (as_leaf-entry l) in cc
 
 pub length-layout : (f : Forest) → length (layout f) ≡ weight f
 length-layout no_trees = refl
@@ -43,8 +41,7 @@ length-layout (tree (group d c s) f) =
 pub layout-concat : (f g : Forest) → layout (concat f g) ≡ layout f ++ layout g
 layout-concat no_trees g = refl
 layout-concat (tree (leaf i) f) g = rw (layout-concat f g)
-layout-concat (tree (group d c s) f) g =
-    rw (layout-concat f g, append_assoc)
+layout-concat (tree (group d c s) f) g = rw (layout-concat f g, append_assoc)
 
 pub layout-reversed : (f g : Forest) → layout (reverse_onto f g) ≡ layout (reverse_onto f no_trees)
     ++ layout g
@@ -79,8 +76,7 @@ forest_in-entries_of f =
 -- what filling a group leaves
 set_first : (xs ys zs : List Entry) (x y : Entry) → set (((xs ++ x ∷ []) ++ ys) ++ zs)
     (length xs) y ≡ xs ++ y ∷ (ys ++ zs)
-set_first xs ys zs x y =
-    simp append_assoc (set_at xs x (ys ++ zs) y (length xs) refl)
+set_first xs ys zs x y = simp append_assoc (set_at xs x (ys ++ zs) y (length xs) refl)
 
 pub fill_lays : (xs : List Entry) (d : Delimiter) (p : Span) (c : Forest) (ys zs : List Entry)
     (n k : ℕ) → n ≡ length xs → ys ≡ (xs ++ End 0 ∷ []) ++ layout c → k ≡ length ys →

@@ -59,8 +59,7 @@ module _ (xs ys : List Entry) (ps : List ℕ) (l : Leaf) (h : IsBuilt xs ps (lev
 
 laid-put : (s : List Forest) (f : Forest) → laid (s ++ f ∷ []) ≡ (laid s ++ layout f) ++ End 0 ∷ []
 laid-put [] f = refl
-laid-put (g ∷ s) f =
-    rw (laid-put s f) (simp append_assoc)
+laid-put (g ∷ s) f = rw (laid-put s f) (simp append_assoc)
 
 place : (n : ℕ) (s : List Forest) (f : Forest) → places n (s ++ f ∷ []) ≡ places n s
     ++ (n + length (laid s ++ layout f)) ∷ []
@@ -125,8 +124,7 @@ leaves_level xs os ps n s (e, p) some o = go s.outer refl some
 -- the place is one of the entries
 pub left_before : (xs : List Entry) (ps : List ℕ) (n : ℕ) (s : Levels) → Left xs ps n s →
     n < length xs
-left_before xs ps n s h =
-    omega (arith, h.place, ap length h.entries, length-append {A = Entry})
+left_before xs ps n s h = omega (arith, h.place, ap length h.entries, length-append {A = Entry})
 
 pub places_length : (n : ℕ) (s : List Forest) → length (places n s) ≡ length s
 places_length n [] = refl
@@ -160,8 +158,7 @@ some_layout (tree t f) e = refl
 -- the innermost level has as many entries as there are after its place
 inner_size : (xs : List Entry) (ps : List ℕ) (n : ℕ) (s : Levels) → Left xs ps n s →
     length xs ≡ n + 1 + length (layout s.inner)
-inner_size xs ps n s h =
-    omega (arith, h.place, ap length h.entries, length-append {A = Entry})
+inner_size xs ps n s h = omega (arith, h.place, ap length h.entries, length-append {A = Entry})
 
 -- a level with more entries after its place holds a tree
 pub left_filled : (xs : List Entry) (ps : List ℕ) (n : ℕ) (s old : Levels) → Left xs ps n s →
@@ -200,5 +197,4 @@ module _ (xs ys : List Entry) (ps : List ℕ) (n : ℕ) (s : Levels) (x : Entry)
 -- entries of one level alone, and an end after them
 pub end_completes : (xs ys : List Entry) (s : Levels) → xs ≡ laid s.outer ++ layout s.inner →
     s.outer ≡ [] → ys ≡ xs ++ End 0 ∷ [] → ys ≡ entries_of s.inner
-end_completes xs ys s e o y =
-    rw (y, e, o)
+end_completes xs ys s e o y = rw (y, e, o)

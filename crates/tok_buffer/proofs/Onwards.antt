@@ -135,8 +135,7 @@ visible_goes =
     (λ P Q m p h. leads-take P Q m any_tree (descend p) (m.down p h))
 
 skips_on : (p q : Place) → skip p ≡ Some q → GoesOn p q
-skips_on p q e =
-    rw e at (goes (λ (q : Place). q) skip (λ P Q m. leads-skip P Q m) p)
+skips_on p q e = rw e at (goes (λ (q : Place). q) skip (λ P Q m. leads-skip P Q m) p)
 
 module _ (read : Read) (on : AllGoOn read) where
   read_on : (p : Place) (ts : List Tree) (q : Place) → read p ≡ Some (ts, q) → GoesOn p q
@@ -203,8 +202,7 @@ chains (at n s c x xs) (at j t d l ls) (at i u e m ms) h k =
 none_not_less : {A : Type 0} → None ≡ Some Less → A
 none_not_less h = cc
 
-less_than : (n m c d : ℕ) → cond (n == m) (Some (nat_cmp c d)) None ≡ Some Less →
-    (n ≡ m) × (c < d)
+less_than : (n m c d : ℕ) → cond (n == m) (Some (nat_cmp c d)) None ≡ Some Less → (n ≡ m) × (c < d)
 less_than n m c d h = grind arith
 
 strictly : (p q r : Place) → StaysIn p q → order q r ≡ Some Less → order p r ≡ Some Less
@@ -218,13 +216,11 @@ strictly (at n s c x xs) (at j t d l ls) (at i u e m ms) h k =
     rw (← b.0, ← a.numbers) (in_order_later n s c e x m xs ms (omega (arith, a.counts, b.1)))
 
 goes_along : (p q r : Place) → GoesOn p q → GoesOn q r → GoesOn p r
-goes_along p q r g h =
-    (chains p q r g.0 h.0, omega (arith, g.1, h.1), strictly p q r g.0 h.2)
+goes_along p q r g h = (chains p q r g.0 h.0, omega (arith, g.1, h.1), strictly p q r g.0 h.2)
 
 pub then_goes : {read : Read} {first : First} → Reading read first → (p q : Place) → GoesOn p q
     → LeadsTo (GoesOn p) (read q)
-then_goes {read} r p q g =
-    IfSome_then (read q) (reading_goes r q) (λ x h. goes_along p q x.1 g h)
+then_goes {read} r p q g = IfSome_then (read q) (reading_goes r q) (λ x h. goes_along p q x.1 g h)
 
 pub lies_nowhere : (q : Place) → GoesOn empty_place q → ⊥
 lies_nowhere empty_place g = false≢true (ap (λ x. is_some_and is_lt x) g.2)
@@ -348,8 +344,7 @@ stays_in_scope (at n s c l ls) (at m t d x xs) (inr h) k = cc
 pub keeps_scope : (p q : Place) → GoesOn p q → same_scope p q ≡ true
 keeps_scope p q g = stays_in_scope p q g.0 g.2
 
-kept_along :
-    (p q r : Place) → same_scope p q ≡ true → same_scope q r ≡ true → same_scope p r ≡ true
+kept_along : (p q r : Place) → same_scope p q ≡ true → same_scope q r ≡ true → same_scope p r ≡ true
 kept_along empty_place empty_place r h k = k
 kept_along empty_place (at j t d l ls) r h k = absurd (false≢true h)
 kept_along (at n s c x xs) empty_place r h k = absurd (false≢true h)

@@ -84,8 +84,7 @@ after_then : (r : Option (List Tree × Place)) (q : Place)
     (g : Place → Option (List Tree × Place)) → place_after r ≡ Some q → is_some (read_then r g)
     ≡ is_some (g q)
 after_then None q g e = cc
-after_then (Some r) q g e =
-    let same : r.1 ≡ q = cc in rw (← same) (then_is_some r g)
+after_then (Some r) q g e = let same : r.1 ≡ q = cc in rw (← same) (then_is_some r g)
 
 pub joint_then : (c d : ℕ) (cs : List ℕ) (p q : Place) →
     place_after (read_if (is_joint_of c) (descend p)) ≡ Some q →

@@ -16,8 +16,7 @@ use Rattle.tok_buffer.proofs.InScope.{scope_end}
 front_rest : (p : Place) (t : Tree) → front p ≡ Some t → rest p ≡ tree t (rest (beyond p))
 front_rest empty_place t e = cc
 front_rest (at k s n (frame o p no_trees) us) t e = cc
-front_rest (at k s n (frame o p (tree u f)) us) t e =
-    let w : u ≡ t = cc in rw (← w)
+front_rest (at k s n (frame o p (tree u f)) us) t e = let w : u ≡ t = cc in rw (← w)
 
 inside_rest : (p : Place) (d : Delimiter) (c : Forest) (t : Span) → front p ≡ Some (group d c t) →
     rest (inside_front p) ≡ c
@@ -41,8 +40,7 @@ rest_done k F n s h e =
 pub rest_front : (a b : Ahead) (many : ℕ) (t : Tree) → front (ahead_place a) ≡ Some t →
     IsOn a many (beyond (ahead_place a)) b → rest (ahead_place a)
     ≡ tree t (rest (ahead_place b))
-rest_front a b many t e on =
-    cc (front_rest (ahead_place a) t e, on.place)
+rest_front a b many t e on = cc (front_rest (ahead_place a) t e, on.place)
 
 pub rest_inside : (a : Ahead) (g : NextGroup) (found : FindsGroup a g) →
     rest (ahead_place g.inside) ≡ found.contents
@@ -55,11 +53,9 @@ rest_inside a g found =
 pub rest_group : (a : Ahead) (g : NextGroup) → FindsGroup a g → rest (ahead_place a)
     ≡ tree (group g.opening.now.delimiter (rest (ahead_place g.inside)) g.opening.now.span)
     (rest (ahead_place g.after))
-rest_group a g found =
-    rw (rest_inside a g found) (rest_front a g.after _ _ found.found found.after)
+rest_group a g found = rw (rest_inside a g found) (rest_front a g.after _ _ found.found found.after)
 
 pub tree_copied : (new old later all : Forest) (t u : Tree) →
     new ≡ concat old (tree u no_trees) → u ≡ t → all ≡ tree t later → concat new later
     ≡ concat old all
-tree_copied new old later all t u e q h =
-    rw (e, joined_assoc, q, h)
+tree_copied new old later all t u e q h = rw (e, joined_assoc, q, h)

@@ -83,8 +83,7 @@ shown_close d (at k s n (frame (in_group x t) p no_trees) (frame o q g ∷ us)) 
 
 none_shown : (d k s n : ℕ) (l : Frame) (us : List Frame) → frame_ahead l ≡ no_trees → us ≡ [] →
     shown d (at k s n l us) ≡ []
-none_shown d k s n (frame o p f) us e q =
-    rw (e, q)
+none_shown d k s n (frame o p f) us e q = rw (e, q)
 
 -- at the scope's end nothing is shown
 pub shown_done : (d : ℕ) (a : Ahead) → a.position ≡ a.scope → shown d (ahead_place a) ≡ []

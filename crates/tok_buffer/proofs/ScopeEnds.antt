@@ -118,8 +118,7 @@ passes-keep p z (further q r ts h e) i =
 -- the trees that are left, without invisible groups
 rest-erased : (ls : List Frame) → erase (rest_in ls) ≡ erased_in ls
 rest-erased [] = refl
-rest-erased (frame o p a ∷ ls) =
-    rw (erase_concat a (rest_in ls), rest-erased ls)
+rest-erased (frame o p a ∷ ls) = rw (erase_concat a (rest_in ls), rest-erased ls)
 
 pub rest_erased : (p : Place) → erase (rest p) ≡ erased_ahead p
 rest_erased empty_place = refl

@@ -52,5 +52,4 @@ module _ (s : Spot) where
 
   pub spot_rests : invisible_front (frame_ahead (inner s)) ≡ false →
       descend (spot_place s) ≡ spot_place s
-  spot_rests =
-      descend_done s.buffer.now.number s.scope s.position (inner s) (around s) s.settled
+  spot_rests = descend_done s.buffer.now.number s.scope s.position (inner s) (around s) s.settled

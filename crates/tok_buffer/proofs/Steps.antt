@@ -42,8 +42,7 @@ module _ (k : ℕ) (F : Forest) (n s : ℕ) (h : in_scope F n s ≡ true) where
 
   pub leaf_next : (i : Leaf) → n ≢ s → entry_here (frames_at F n).0 ≡ leaf_entry i →
       place_at k F (n + 1) s ≡ beyond (place_at k F n s)
-  leaf_next i ne e =
-      (place_step k n s F h ne).1 ∙ leaf_beyond (place_at k F n s) i (leaf_found i e)
+  leaf_next i ne e = (place_step k n s F h ne).1 ∙ leaf_beyond (place_at k F n s) i (leaf_found i e)
 
   pub end_found : (m : ℕ) → n ≢ s → entry_here (frames_at F n).0 ≡ End m →
       ends_group (place_at k F n s) ≡ true
@@ -72,8 +71,7 @@ module _ (a : Ahead) (before_end : a.position ≡ a.scope → ⊥) where
       omega (arith, before_scope a.buffer.now.forest a.position a.scope a.within, before_end)
 
   pub onward_within : in_scope a.buffer.now.forest (a.position + 1) a.scope ≡ true
-  onward_within =
-      (place_step 0 a.position a.scope a.buffer.now.forest a.within before_end).0
+  onward_within = (place_step 0 a.position a.scope a.buffer.now.forest a.within before_end).0
 
 -- where this is ahead
 pub ahead_at : (a : Ahead) (b : Laid) (n s : ℕ) → a.buffer.now ≡ b → a.position ≡ n →

@@ -160,8 +160,7 @@ no_misfit (c ∷ text) h =
     cc (no_misfit text even.1)
 
 fits : (text : List ℕ) → list_any is_odd text ≡ false → is_wrong Bytes text ≡ false
-fits text h =
-    rw (none_bare text (has_return text) (λ e. e) (no_return text h)) (no_misfit text h)
+fits text h = rw (none_bare text (has_return text) (λ e. e) (no_return text h)) (no_misfit text h)
 
 -- no byte character begins so
 module _ (inner : List ℕ) where

@@ -34,8 +34,7 @@ IsCUnit text front after = c_unit text ≡ Some (encode_utf8_all front, after)
 
 plain_unit : (text front after : List ℕ) → names_byte text ≡ false →
     unit false text ≡ Some (front, after) → IsCUnit text front after
-plain_unit text front after e h =
-    rw (e, h)
+plain_unit text front after e h = rw (e, h)
 
 byte_unit : (rest front after : List ℕ) → unit false (92 ∷ 120 ∷ rest) ≡ Some (front, after) →
     IsCUnit (92 ∷ 120 ∷ rest) front after

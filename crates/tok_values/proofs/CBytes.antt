@@ -38,8 +38,7 @@ use Rattle.tok_lexical.specs.Private.Starts.{beginning}
 -- what holds of each byte but zero holds of this one, by computing
 each : {X : Type 0} (f g : ℕ → X) (d : X) (b : ℕ) →
     map f (range_with_len 1 255) ≡ map g (range_with_len 1 255) → (b ≡ 0 → ⊥) → b < 256 → f b ≡ g b
-each f g d b same some h =
-    each_from 1 255 f g d b same (omega (arith, some)) (omega (arith, h))
+each f g d b same some h = each_from 1 255 f g d b same (omega (arith, some)) (omega (arith, h))
 
 -- its value
 byte_value : (b : ℕ) (rest : List ℕ) → (b ≡ 0 → ⊥) → b < 256 →
@@ -56,8 +55,7 @@ byte_no_zero b rest some h =
     h
 
 byte_no_null : (b : ℕ) → (b ≡ 0 → ⊥) → b < 256 → has_null (escape_ascii b) ≡ false
-byte_no_null b some h =
-    each (λ c. has_null (escape_ascii c)) (λ _. false) true b refl some h
+byte_no_null b some h = each (λ c. has_null (escape_ascii c)) (λ _. false) true b refl some h
 
 -- a unit of bytes is one of a C string
 c_unit_of : {text : List ℕ} → IsUnit Bytes text → IsUnit C text

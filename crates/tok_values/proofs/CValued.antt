@@ -37,8 +37,7 @@ Counts text meaning = has_null meaning ≡ zeros text
 
 joined : (front after text meaning : List ℕ) (z : Bool) → has_null front ≡ z →
     zeros text ≡ (z || zeros after) → Counts after meaning → Counts text (front ++ meaning)
-joined front after text meaning z e f h =
-    rw (list_any-append (λ c. c == 0) front meaning, e, h, f)
+joined front after text meaning z e f h = rw (list_any-append (λ c. c == 0) front meaning, e, h, f)
 
 regroup : (a b c : Bool) → ((a || b) || c) ≡ ((a || false) || (b || c))
 regroup a b c = grind arith
@@ -105,10 +104,8 @@ escape_counts text rest (inl (simple c h)) =
 escape_counts text rest (inl (hex {text = digits} h)) =
     inl (named_counts true (120 ∷ digits) rest refl (hex_names true digits rest h))
 escape_counts text rest (inl (code e h)) = absurd (false≢true (sym e))
-escape_counts text rest (inl (line_end e (inl f))) =
-    line_counts text rest (rw f) (rw f)
-escape_counts text rest (inl (line_end e (inr f))) =
-    line_counts text rest (rw f) (rw f)
+escape_counts text rest (inl (line_end e (inl f))) = line_counts text rest (rw f) (rw f)
+escape_counts text rest (inl (line_end e (inr f))) = line_counts text rest (rw f) (rw f)
 escape_counts text rest (inr (braced, e, h)) =
     rw e (inl (named_counts false (117 ∷ braced) rest refl (code_names braced rest h)))
 

@@ -25,8 +25,7 @@ alone wide c inner rest e h =
 any_escape : (wide : Bool) (text rest : List ℕ) → IsEscape false wide text → Names wide text rest
 any_escape wide text rest (simple c h) = simple_names wide c rest h
 any_escape wide text rest (hex {text = digits} h) = hex_names wide digits rest h
-any_escape wide text rest (code {text = braced} e h) =
-    rw e (code_names braced rest h)
+any_escape wide text rest (code {text = braced} e h) = rw e (code_names braced rest h)
 any_escape wide text rest (line_end e h) = absurd (false≢true e)
 
 escaped : (wide : Bool) (inner rest : List ℕ) → After 92 (IsEscape false wide) inner →

@@ -10,8 +10,7 @@ module _ (text start digits after : List ℕ) (cut : text ≡ 123 ∷ start)
     (s : Skips (is_neither 125 125) start digits after) where
   pub code_is : code text ≡ (if begins_with 125 after then and_rest (named_char digits)
       (after_first after) else None)
-  code_is =
-      let w = first_parts 125 start digits after s in rw (cut, w.1, w.0)
+  code_is = let w = first_parts 125 start digits after s in rw (cut, w.1, w.0)
 
   pub code_open : ((rest : List ℕ) → after ≡ 125 ∷ rest → ⊥) → code text ≡ None
   code_open misses =
@@ -23,5 +22,4 @@ module _ (text start digits after : List ℕ) (cut : text ≡ 123 ∷ start)
 
   pub code_closed : (rest : List ℕ) → after ≡ 125 ∷ rest
       → code text ≡ and_rest (named_char digits) rest
-  code_closed rest e =
-      rw (code_is, e)
+  code_closed rest e = rw (code_is, e)

@@ -27,12 +27,10 @@ module _ (radix : ℕ) (all rest after : List ℕ) (value c : ℕ)
     (stands : fold (step radix) value rest ≡ number radix all) (cut : rest ≡ c ∷ after) where
   pub number_more : (d : ℕ) → (digit_value c < radix) × (d ≡ digit_value c)
       → fold (step radix) (value * radix + d) after ≡ number radix all
-  number_more d (low, is) =
-      let digit = lt-ltb (digit_value c) radix low in cc
+  number_more d (low, is) = let digit = lt-ltb (digit_value c) radix low in cc
 
   pub number_same : (digit_value c < radix → ⊥) → fold (step radix) value after ≡ number radix all
-  number_same high =
-      let digit = le-ltb (digit_value c) radix (omega (arith, high)) in cc
+  number_same high = let digit = le-ltb (digit_value c) radix (omega (arith, high)) in cc
 
   pub number_past : (d top : ℕ) → 1 ≤ radix → (digit_value c < radix) × (d ≡ digit_value c)
       → (value * radix + d < top → ⊥) → top ≤ number radix all
@@ -54,8 +52,7 @@ module _ (text digits rest sfx : List ℕ) (radix : ℕ) (base : radix ≡ (base
   where
     to_digits : (value : ℕ) (suffix : List ℕ) → IsInteger text value suffix
         → IsDigits radix rest suffix value
-    to_digits value suffix (starts, d) =
-        rw (base, left) d
+    to_digits value suffix (starts, d) = rw (base, left) d
 
     pub no_digit : has_digit radix digits ≡ false → (value : ℕ) → (suffix : List ℕ)
         → IsInteger text value suffix → ⊥

@@ -35,8 +35,7 @@ digits_pass radix (c ∷ digits) rest h s =
 
 pub after_skips : (radix : ℕ) (text digits rest : List ℕ) →
     Skips (is_digit_or_underscore radix) text digits rest → after_digits radix text ≡ rest
-after_skips radix text digits rest s =
-    rw s.cut (digits_pass radix digits rest s.pass s.stops)
+after_skips radix text digits rest s = rw s.cut (digits_pass radix digits rest s.pass s.stops)
 
 -- no mark stands in an identifier
 mark_cases : (P : ℕ → Type 0) (c : ℕ) → is_mark c ≡ true → P 34 → P 39 → P 35 → P c
@@ -78,8 +77,7 @@ marks_suffix rest suffix (inr i) = marks_identifier rest suffix i
 
 marks_found : (rest front : List ℕ) (mark : ℕ) (suffix : List ℕ) → is_mark mark ≡ true →
     IsSuffix suffix → after_marks rest (front ++ mark ∷ suffix) ≡ suffix
-marks_found rest [] mark suffix m h =
-    cc (marks_suffix suffix suffix h)
+marks_found rest [] mark suffix m h = cc (marks_suffix suffix suffix h)
 marks_found rest (c ∷ front) mark suffix m h =
     marks_found (cond (is_mark c) (front ++ mark ∷ suffix) rest) front mark suffix m h
 
@@ -103,8 +101,7 @@ suffix_stays (c ∷ rest) h =
 
 decimal_stays : (radix : ℕ) (b : Bool) (suffix : List ℕ) → (radix == 10) ≡ b →
     IsNumberSuffix radix suffix → cond b (after_exponent (after_fraction suffix)) suffix ≡ suffix
-decimal_stays radix true suffix e h =
-    suffix_stays suffix (rw (eqb-true radix 10 e) at h)
+decimal_stays radix true suffix e h = suffix_stays suffix (rw (eqb-true radix 10 e) at h)
 decimal_stays radix false suffix e h = refl
 
 integer_suffix : (text : List ℕ) (value : ℕ) (suffix : List ℕ) → IsInteger text value suffix →
@@ -124,8 +121,7 @@ no_minus (c ∷ text) h = simp (digit_unsigned c h)
 -- the suffix of a literal that begins with a digit is that of a number
 pub number_literal : (text : List ℕ) → starts_digit text ≡ true →
     literal_suffix text ≡ number_suffix text
-number_literal text h =
-    simp (no_minus text h, h)
+number_literal text h = simp (no_minus text h, h)
 
 -- so is that of one that begins with a minus sign and a digit
 pub minus_literal : (text : List ℕ) → starts_digit text ≡ true →

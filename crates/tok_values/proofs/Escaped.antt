@@ -39,8 +39,7 @@ pub record Names (wide : Bool) (text rest : List ℕ) : Type 0 where
 -- which is a unit
 pub named_unit : {wide : Bool} {text rest : List ℕ} → (n : Names wide text rest) →
     unit wide (92 ∷ (text ++ rest)) ≡ Some (n.char ∷ [], rest)
-named_unit {wide} {text} {rest} n =
-    simp (n.in_line, n.is)
+named_unit {wide} {text} {rest} n = simp (n.in_line, n.is)
 
 simple_cases : (c : ℕ) → is_simple_escape c ≡ true →
     (c ≡ 34) ⊎ ((c ≡ 39) ⊎ ((c ≡ 48) ⊎ ((c ≡ 92) ⊎ ((c ≡ 116) ⊎ ((c ≡ 110) ⊎ (c ≡ 114))))))

@@ -49,8 +49,7 @@ signed_found piece (inr (inr (digits, suffix, cut, all, some, ends))) =
 exponent_found : (piece : List ℕ) (exponent : IsExponent piece) →
     after_exponent piece ≡ exponent_suffix piece exponent
 exponent_found [] none = absurd none
-exponent_found (c ∷ more) (letter, signed) =
-    simp letter (signed_found more signed)
+exponent_found (c ∷ more) (letter, signed) = simp letter (signed_found more signed)
 
 -- an exponent begins with `e` or `E`
 letter_stops : (c : ℕ) → ((c == 101) || (c == 69)) ≡ true → is_digit_or_underscore 10 c ≡ false

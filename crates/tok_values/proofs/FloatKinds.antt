@@ -64,8 +64,7 @@ keeps_front m (x ∷ y ∷ z ∷ rest) h =
 is_none : (o : Option Float) (value : Float) → is_some o ≡ false → o ≡ Some value → ⊥
 is_none o value h e = cc
 
-some_if : {A : Type 0} (b : Bool) (o : Option A) (value : A) → cond b o None ≡ Some value →
-    b ≡ true
+some_if : {A : Type 0} (b : Bool) (o : Option A) (value : A) → cond b o None ≡ Some value → b ≡ true
 some_if true o value e = refl
 some_if false o value e = absurd (cc)
 
@@ -179,8 +178,7 @@ type_cut_off text =
 
 -- the first byte of a character, which is the character itself if it is ASCII
 abbrev BeginsAs : ℕ → List ℕ → Type 0
-BeginsAs c bytes =
-    (b : ℕ) × (more : List ℕ) × (bytes ≡ b ∷ more) × ((b ≡ c) ⊎ (128 ≤ b))
+BeginsAs c bytes = (b : ℕ) × (more : List ℕ) × (bytes ≡ b ∷ more) × ((b ≡ c) ⊎ (128 ≤ b))
 
 first_byte : (c : ℕ) (rest : List ℕ) → BeginsAs c (encode_utf8_all (c ∷ rest))
 first_byte c rest = at (encode_utf8_all (c ∷ rest)) refl
@@ -217,8 +215,7 @@ module _ (bytes suffix : List ℕ) (u : IsUtf8 bytes) (starts : starts_digit (ch
       starts_on r.front more (front_starts r.front suffix r.reads (rw r.cut at starts))
 
   read : parse_float binary64 (without_underscores (without_type bytes)) ≡ Some value
-  read =
-      rw (begins bytes (rw joined (front_begins after_front))) at has
+  read = rw (begins bytes (rw joined (front_begins after_front))) at has
 
   -- what goes on after the front is no number
   longer_none : (c : ℕ) (rest : List ℕ) (b : ℕ) (more : List ℕ) → suffix ≡ c ∷ rest →

@@ -90,8 +90,7 @@ abbrev pub Halts : (s b : ℕ) → Type 0
 Halts s b = (is_no_underscore b ≡ true) × (float_scan_step s b ≡ 7)
 
 pub halted : (s b : ℕ) (more : List ℕ) → Halts s b → ends (after s (b ∷ more)) ≡ false
-halted s b more h =
-    cc (completes 7 (without_underscores more), lost (without_underscores more))
+halted s b more h = cc (completes 7 (without_underscores more), lost (without_underscores more))
 
 -- a byte that goes on with no digits
 no_digit : (c : ℕ) → is_digit_or_underscore 10 c ≡ false →
@@ -347,8 +346,7 @@ digit_no_word c h = grind (arith, nat_tests)
 
 no_word : (c : ℕ) (more : List ℕ) → is_digit c 10 ≡ true →
     (is_infinity_text (c ∷ more) || is_nan_text (c ∷ more)) ≡ false
-no_word c more h =
-    let none = or_parts (to_ascii_lowercase c == 105) _ (digit_no_word c h) in cc
+no_word c more h = let none = or_parts (to_ascii_lowercase c == 105) _ (digit_no_word c h) in cc
 
 pub number_text : (xs : List ℕ) → starts_digit xs ≡ true →
     is_float_text (without_underscores xs) ≡ ends (after 0 xs)

@@ -22,8 +22,7 @@ pub whole : (text : List ℕ) → EndsWith text text
 whole text = ([], refl)
 
 pub through : (text rest end : List ℕ) → EndsWith rest text → EndsWith end rest → EndsWith end text
-through text rest end (front, p) (more, q) =
-    (front ++ more, cc (append_assoc front more end))
+through text rest end (front, p) (more, q) = (front ++ more, cc (append_assoc front more end))
 
 pub past : (c : ℕ) (rest text : List ℕ) → EndsWith rest text → EndsWith rest (c ∷ text)
 past c rest text (front, p) = (c ∷ front, ap (λ w. c ∷ w) p)

@@ -49,8 +49,7 @@ AreDigits digits = list_all (λ c. is_digit c 10) digits ≡ true
 
 are_digits : (digits : List ℕ) → AllDigits 10 digits → AreDigits digits
 are_digits [] h = refl
-are_digits (c ∷ digits) h =
-    and_from _ _ (lt-ltb (digit_value c) 10 h.0) (are_digits digits h.1)
+are_digits (c ∷ digits) h = and_from _ _ (lt-ltb (digit_value c) 10 h.0) (are_digits digits h.1)
 
 digits_pass : (digits : List ℕ) → AreDigits digits →
     list_all (is_digit_or_underscore 10) digits ≡ true
@@ -70,8 +69,7 @@ digit_high : (c : ℕ) → is_digit c 10 ≡ true → 48 ≤ c
 digit_high c p = grind (arith, nat_tests)
 
 digits_ascii : (digits : List ℕ) → AreDigits digits → IsAscii digits
-digits_ascii =
-    all_ascii (λ c. is_digit c 10) (λ c p. let low = digit_low c p in omega (arith, low))
+digits_ascii = all_ascii (λ c. is_digit c 10) (λ c p. let low = digit_low c p in omega (arith, low))
 
 -- what a digit begins
 start_digit : (c : ℕ) → is_digit c 10 ≡ true → (c == 48) ≡ false → start_of c ≡ start.Digit

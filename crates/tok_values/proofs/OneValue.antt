@@ -15,15 +15,12 @@ use Rattle.tok_values.proofs.Letters.{after_once}
 pub strings : HasOneValue IsStrValue
 strings text a b (inl (cs, p, is)) (inl (ds, q, so)) =
     let same = quotes_once (unit false) (quote_stops false) text cs ds p q in cc
-strings text a b (inl (cs, p, is)) (inr q) =
-    absurd (no_raw text (ap (begins_with 114) p.1) b q)
-strings text a b (inr p) (inl (ds, q, so)) =
-    absurd (no_raw text (ap (begins_with 114) q.1) a p)
+strings text a b (inl (cs, p, is)) (inr q) = absurd (no_raw text (ap (begins_with 114) p.1) b q)
+strings text a b (inr p) (inl (ds, q, so)) = absurd (no_raw text (ap (begins_with 114) q.1) a p)
 strings text a b (inr p) (inr q) = raw_once text a b p q
 
 pub byte_strings : HasOneValue IsByteStrValue
-byte_strings =
-    after_once 98 (IsStringBy (unit true)) (string_once (unit true) (quote_stops true))
+byte_strings = after_once 98 (IsStringBy (unit true)) (string_once (unit true) (quote_stops true))
 
 pub c_strings : HasOneValue IsCStrValue
 c_strings text a b p q =

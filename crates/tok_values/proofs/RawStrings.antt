@@ -73,8 +73,7 @@ raw_suffix text raw suffix value cut h s =
 -- what a function that looks for a raw string with any suffix returns
 module _ (text : List ℕ) where
   pub no_raw : begins_with 114 text ≡ false → (value : List ℕ) → InRaw text value → ⊥
-  no_raw h value (raw, suffix, cut, (quoted, e, read), s) =
-      cc
+  no_raw h value (raw, suffix, cut, (quoted, e, read), s) = cc
 
   pub no_raw_suffix : (IsSuffix (literal_suffix text) → ⊥) → (value : List ℕ) → InRaw text value → ⊥
   no_raw_suffix never value (raw, suffix, cut, h, s) =

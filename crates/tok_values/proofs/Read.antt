@@ -23,8 +23,7 @@ written_unit =
     (λ c q s f r t n. plain c (eqb-false c 34 q) (eqb-false c 92 s))
 
 pub written_kept : (c : ℕ) → NoReturn (written c)
-written_kept =
-    written_cases (λ _. NoReturn) refl refl refl refl refl refl (λ c q s f r t n. simp r)
+written_kept = written_cases (λ _. NoReturn) refl refl refl refl refl refl (λ c q s f r t n. simp r)
 
 -- as a string literal is written
 strings : IsWriting written escaped

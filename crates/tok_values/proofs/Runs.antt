@@ -40,8 +40,7 @@ plain_means wide (c ∷ front) rest p =
 -- a run of such characters means itself
 pub run_means : (wide : Bool) (text front rest : List ℕ) → Skips (is_plain wide) text front rest →
     Means wide text rest front
-run_means wide text front rest s =
-    rw s.cut (plain_means wide front rest s.pass)
+run_means wide text front rest s = rw s.cut (plain_means wide front rest s.pass)
 
 -- one reading after another
 joined : (wide : Bool) (text middle rest xs ys : List ℕ) → Means wide text middle xs →
@@ -62,13 +61,11 @@ run_more wide text middle rest characters front m s =
 pub run_encoded : (old new now characters front : List ℕ) →
     new ≡ old ++ encode_utf8_all characters → now ≡ new ++ encode_utf8_all front →
     now ≡ old ++ encode_utf8_all (characters ++ front)
-run_encoded old new now characters front e h =
-    rw (h, e, encodes-append, append_assoc)
+run_encoded old new now characters front e h = rw (h, e, encodes-append, append_assoc)
 
 pub run_appended : (old new now characters front : List ℕ) → new ≡ old ++ characters →
     now ≡ new ++ front → now ≡ old ++ (characters ++ front)
-run_appended old new now characters front e h =
-    cc (append_assoc old characters front)
+run_appended old new now characters front e h = cc (append_assoc old characters front)
 
 -- the bytes of a run of ASCII are its characters
 pub run_bytes : (front : List ℕ) → list_all (is_plain true) front ≡ true →

@@ -67,13 +67,11 @@ digits_pass p one (v ∷ vs) h = and_from _ _ (one v h.0) (digits_pass p one vs 
 
 number_is : (vs : List ℕ) (n : ℕ) → AreLow vs → fold (step 16) n (map digit_char vs) ≡ worth n vs
 number_is [] n h = refl
-number_is (v ∷ vs) n h =
-    cc (glyph_digit v h.0, glyph_value v h.0, number_is vs (n * 16 + v) h.1)
+number_is (v ∷ vs) n h = cc (glyph_digit v h.0, glyph_value v h.0, number_is vs (n * 16 + v) h.1)
 
 kept_digits : (vs : List ℕ) → AreLow vs → NoReturn (map digit_char vs)
 kept_digits [] h = refl
-kept_digits (v ∷ vs) h =
-    simp (glyph_kept v h.0) (kept_digits vs h.1)
+kept_digits (v ∷ vs) h = simp (glyph_kept v h.0) (kept_digits vs h.1)
 
 scalar_digits : (vs rest : List ℕ) → AreLow vs → scalars rest ≡ true →
     scalars (map digit_char vs ++ rest) ≡ true
@@ -131,8 +129,7 @@ module _ (c : ℕ) (text : List ℕ) (s : scalar c ≡ true) (w : IsCodeOf c tex
       w.low)
 
   named : named_char digits ≡ Some c
-  named =
-      simp (are_digits, value, s)
+  named = simp (are_digits, value, s)
 
   code_found : (rest : List ℕ) → escapes.code (123 ∷ (digits ++ 125 ∷ rest)) ≡ Some (c, rest)
   code_found rest =
@@ -167,8 +164,7 @@ module _ (c : ℕ) (text : List ℕ) (s : scalar c ≡ true) (w : IsCodeOf c tex
   code_scalar = rw w.is (scalar_digits (w.first ∷ w.more) (125 ∷ []) w.low refl)
 
   code_kept : NoReturn text
-  code_kept =
-      rw w.is (both_kept digits (125 ∷ []) (kept_digits (w.first ∷ w.more) w.low) refl)
+  code_kept = rw w.is (both_kept digits (125 ∷ []) (kept_digits (w.first ∷ w.more) w.low) refl)
 
 -- a character, the escape that stands for it, or its code
 abbrev shown_chars : ℕ → List ℕ

@@ -30,8 +30,7 @@ pub some_suffix : (text : List ℕ) (b : Bool) → IsUtf8 text → (length text 
     MatchBool b (IsIdentifier (chars text)) (IsIdentifier (chars text) → ⊥) →
     MatchBool b (IsSuffix (chars text)) (IsSuffix (chars text) → ⊥)
 some_suffix text true u some h = inr h
-some_suffix text false u some h =
-    λ s. elim s [ inl e ↦ some_chars text u some e | inr i ↦ h i ]
+some_suffix text false u some h = λ s. elim s [ inl e ↦ some_chars text u some e | inr i ↦ h i ]
 
 -- quotes are read, or no others are there
 module _ (Tail : List ℕ → Type 0) (unit_of : List ℕ → Option (List ℕ × List ℕ))
@@ -57,14 +56,12 @@ c_quote_stops rest = refl
 -- the front of a C string is no unit, or it is one
 pub c_none : (text : List ℕ) (is_byte : Bool) → is_byte ≡ names_byte text → unit is_byte text ≡ None
     → c_unit text ≡ None
-c_none text is_byte e h =
-    rw (← e, h)
+c_none text is_byte e h = rw (← e, h)
 
 pub c_some : (text characters rest : List ℕ) (is_byte : Bool) → is_byte ≡ names_byte text →
     unit is_byte text ≡ Some (characters, rest) →
     c_unit text ≡ Some (bytes_of is_byte characters, rest)
-c_some text characters rest is_byte e h =
-    rw (← e, h)
+c_some text characters rest is_byte e h = rw (← e, h)
 
 -- a string has one value
 module _ (unit_of : List ℕ → Option (List ℕ × List ℕ))
@@ -123,5 +120,4 @@ module _ {S E : Type 0} (bytes : S → List ℕ) where
 
 pub c_other : (text string : List ℕ) → text ≡ 99 ∷ string →
     ((v : List ℕ) → IsStringBy c_unit string v → ⊥) → (v : List ℕ) → IsCStrValue text v → ⊥
-c_other text string e none v ((w, f, p), some) =
-    let same : w ≡ string = cc in none v (rw same at p)
+c_other text string e none v ((w, f, p), some) = let same : w ≡ string = cc in none v (rw same at p)

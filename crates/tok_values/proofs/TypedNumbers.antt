@@ -19,13 +19,11 @@ use Rattle.tok_values.proofs.MadeIntegers.{type_ascii}
 
 -- a text whose characters are ASCII is them
 same_bytes : (text word : List ℕ) → IsUtf8 text → IsAscii word → chars text ≡ word → text ≡ word
-same_bytes text word u low same =
-    cc (encodes-chars text u, encodes-IsAscii word low)
+same_bytes text word u low same = cc (encodes-chars text u, encodes-IsAscii word low)
 
 -- the bytes of a suffix tell whether it is one of a float
 pub float_suffix_chars : (text : List ℕ) → IsFloatSuffix text → IsFloatSuffix (chars text)
-float_suffix_chars text is =
-    rw (chars-IsAscii text (float_type_ascii text is)) is
+float_suffix_chars text is = rw (chars-IsAscii text (float_type_ascii text is)) is
 
 pub float_suffix_bytes : (text : List ℕ) → IsUtf8 text → IsFloatSuffix (chars text) →
     IsFloatSuffix text

@@ -39,5 +39,4 @@ unit_more wide = more_by (unit wide)
 pub encoded_more : (old new now : List ℕ) (characters : List ℕ) (c : ℕ)
     → new ≡ old ++ encode_utf8_all characters
     → now ≡ new ++ encode_utf8 c → now ≡ old ++ encode_utf8_all (characters ++ c ∷ [])
-encoded_more old new now characters c e h =
-    rw (h, e, encodes-append, append-nil, append_assoc)
+encoded_more old new now characters c e h = rw (h, e, encodes-append, append-nil, append_assoc)

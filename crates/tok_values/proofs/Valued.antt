@@ -68,8 +68,7 @@ module _ (kind : Contents) (unit_of : List ℕ → Option (List ℕ × List ℕ)
   abbrev HasMeaning : List ℕ → Type 0
   HasMeaning text = (meaning : List ℕ) × MeansBy unit_of text end meaning × Fact text meaning
 
-  next : (text after : List ℕ) → Begins unit_of Fact text after → HasMeaning after →
-      HasMeaning text
+  next : (text after : List ℕ) → Begins unit_of Fact text after → HasMeaning after → HasMeaning text
   next text after (front, e, keeps) (meaning, means, fact) =
       (front ++ meaning, more text after end front meaning e means, keeps meaning fact)
 
@@ -94,8 +93,7 @@ module _ (kind : Contents) (unit_of : List ℕ → Option (List ℕ × List ℕ)
       record { front = []; left = c ∷ rest; cut = refl; is = simp e; units = us }
 
   stripped : {body : List ℕ} → AreUnits kind body → Stripped body
-  stripped no_unit =
-      record { front = []; left = []; cut = refl; is = refl; units = no_unit }
+  stripped no_unit = record { front = []; left = []; cut = refl; is = refl; units = no_unit }
   stripped (one_more {rest = rest} (plain c quote slash) us) =
       strip c rest (is_blank c) refl (one_more (plain c quote slash) us) (stripped us)
   stripped (one_more {rest = rest} (escape {text = text} e) us) = record {
@@ -216,10 +214,8 @@ any_escape wide text rest (hex {text = digits} h) =
 any_escape wide text rest (code {text = braced} e h) =
     let n : Names wide (117 ∷ braced) rest = rw e (code_names braced rest h) in
     inl (n.char ∷ [], named_unit n, λ m f. tt)
-any_escape wide text rest (line_end e (inl f)) =
-    inr ([], rw f, λ m g. tt)
-any_escape wide text rest (line_end e (inr f)) =
-    inr ([], rw f, λ m g. tt)
+any_escape wide text rest (line_end e (inl f)) = inr ([], rw f, λ m g. tt)
+any_escape wide text rest (line_end e (inr f)) = inr ([], rw f, λ m g. tt)
 
 by_units : (kind : Contents) (wide : Bool) →
     ((text : List ℕ) → EscapeOf kind text → IsEscape true wide text) →
@@ -281,8 +277,7 @@ pub strings_have_values : (text : List ℕ) →
 strings_have_values text (inl ((body, suffix, e, us, ends), right)) =
     let (meaning, means, read, fact) = quoted_text text body suffix e us ends right in
     (encode_utf8_all meaning, inl (meaning, read, refl))
-strings_have_values text (inr raw) =
-    let (value, read) = raw_value text raw in (value, inr read)
+strings_have_values text (inr raw) = let (value, read) = raw_value text raw in (value, inr read)
 
 pub plain_strings_have_values : (text : List ℕ) → IsString Text text → is_wrong Text text ≡ false →
     literal_suffix text ≡ [] → (value : List ℕ) × IsStringValue text value

@@ -65,8 +65,7 @@ encoded_null c =
 
 pub all_encoded_null : (text : List ℕ) → has_null (encode_utf8_all text) ≡ has_null text
 all_encoded_null [] = refl
-all_encoded_null (c ∷ text) =
-    rw (list_any-append, encoded_null, all_encoded_null text)
+all_encoded_null (c ∷ text) = rw (list_any-append, encoded_null, all_encoded_null text)
 
 pub no_misfit : (text : List ℕ) → has_null text ≡ false → has_misfit C text ≡ false
 no_misfit [] h = refl
@@ -96,8 +95,7 @@ digit_zero c = grind (arith, nat_tests)
 
 pub digits_zero : (high low : ℕ) →
     ((digit_value high * 16 + digit_value low) == 0) ≡ ((high == 48) && (low == 48))
-digits_zero high low =
-    simp (sum_zero, digit_zero)
+digits_zero high low = simp (sum_zero, digit_zero)
 
 -- the number that digits and underscores write
 abbrev and_digit : ℕ → ℕ → ℕ

@@ -59,8 +59,7 @@ front-ahead d (at n s c (frame o p no_trees) (l ∷ ls)) h = absurd h
 descended-ahead : (d : Delimiter) (p : Place)
     → option_map entered_ahead (entered_of d (enter_any (descend p)))
     ≡ first_group d (erased_ahead p)
-descended-ahead d p =
-    rw (← erased-descend p) (front-ahead d (descend p) (descended-descend p))
+descended-ahead d p = rw (← erased-descend p) (front-ahead d (descend p) (descended-descend p))
 
 pub tells-enter : (d : Delimiter) (p : Place) → IsVisibleDelimiter d
     → option_map entered_ahead (enter d p) ≡ first_group d (erased_ahead p)
@@ -75,8 +74,7 @@ ahead_tells p = record {
 }
 
 pub ahead_tells_ends : AheadTellsEnds
-ahead_tells_ends b i p r =
-    let h = reached_stands b i p r in end_tells p h.settled h.holds.filled
+ahead_tells_ends b i p r = let h = reached_stands b i p r in end_tells p h.settled h.holds.filled
 
 pub all_ahead_at_start : AllAheadAtStart
 all_ahead_at_start number f = concat-none (erase f)

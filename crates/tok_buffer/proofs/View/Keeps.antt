@@ -39,8 +39,7 @@ module _ (P : Place → Type 0) (k : IsKept P) where
       → P (at n s c (frame o p f) ls)
       → KeptAt (into_front f n s c o p ls)
       (at n s (c + weight f) (frame o (reverse_onto f p) no_trees) ls)
-  kept-into_front no_trees n s c o p ls h =
-      rw add-zero h
+  kept-into_front no_trees n s c o p ls h = rw add-zero h
   kept-into_front (tree (leaf l) f) n s c o p ls h = h
   kept-into_front (tree (group delimiter.None inside span) f) n s c o p ls h =
       let same = reversed_back inside in

@@ -29,8 +29,7 @@ use Rattle.tok_buffer.proofs.View.Tells.{same_trees}
 
 pub read-same : {read : Read} {first : First} → Reading read first → (f g : Forest) (p q : Place)
     → view f p ≡ view g q → ReadsAgree f g read p q
-read-same {read} {first} r f g p q e =
-    cc (view-reading f r p, view-reading g r q)
+read-same {read} {first} r f g p q e = cc (view-reading f r p, view-reading g r q)
 
 pub views_decide : ViewsDecide
 views_decide b c p q s =
@@ -62,8 +61,7 @@ view-start : (n : ℕ) (f : Forest) → view f (start n f) ≡ seen 0 delimiter.
 view-start n f = rw (after-start f, concat-none (erase f))
 
 pub starts_agree : StartsAgree
-starts_agree b c e =
-    cc (view-start b.number b.forest, view-start c.number c.forest)
+starts_agree b c e = cc (view-start b.number b.forest, view-start c.number c.forest)
 
 -- The places after each call are reached.
 module _ (b : Laid) where

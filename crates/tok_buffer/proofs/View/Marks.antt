@@ -63,11 +63,9 @@ marks_beyond (frame o p a ∷ ls) = 0 ∷ (visible_marks a ++ marks_beyond ls)
 
 sum-beyond : (ls : List Frame) → sum (marks_beyond ls) ≡ weight (erased_in ls)
 sum-beyond [] = refl
-sum-beyond (frame o p a ∷ ls) =
-    omega (arith, sum-append, sum-marks a, sum-beyond ls, weight-concat)
+sum-beyond (frame o p a ∷ ls) = omega (arith, sum-append, sum-marks a, sum-beyond ls, weight-concat)
 
-drop_next : (c : ℕ) (xs : List ℕ) (x : ℕ) (ys : List ℕ) → drop c xs ≡ x ∷ ys
-    → drop (c + 1) xs ≡ ys
+drop_next : (c : ℕ) (xs : List ℕ) (x : ℕ) (ys : List ℕ) → drop c xs ≡ x ∷ ys → drop (c + 1) xs ≡ ys
 drop_next c xs x ys e = rw add-one (go c xs e) where
   go : (k : ℕ) (zs : List ℕ) → drop k zs ≡ x ∷ ys → drop (suc k) zs ≡ ys
   go zero [] h = absurd (cc)
@@ -112,8 +110,7 @@ module _ (g : Forest) where
   nothing_after = drop_all (weight g) (visible_marks g) (le_of_eq (length-marks g))
 
   pub in-start : (n : ℕ) → IsIn (start n g)
-  in-start n =
-      rw (nothing_after, append-nil)
+  in-start n = rw (nothing_after, append-nil)
 
   pub after-start : visible_after g (weight g) ≡ 0
   after-start = rw nothing_after

@@ -37,8 +37,7 @@ some_weight (group d inside span) = omega arith
 pub read_parts : (t u : Tree) (q r : Place)
     → ◌≡◌ {A = Option (List Tree × Place)} (Some (t ∷ [], q)) (Some (u ∷ [], r))
     → (t ≡ u) × (q ≡ r)
-read_parts t u q r e =
-    let (trees, same) = some_pair_parts (t ∷ []) (u ∷ []) q r e in (cc, same)
+read_parts t u q r e = let (trees, same) = some_pair_parts (t ∷ []) (u ∷ []) q r e in (cc, same)
 
 -- A descent keeps P, and passing a tree leads from P to Q: so each read leads from P to Q.
 pub record Leads (P Q : Place → Type 0) : Type 0 where

@@ -35,8 +35,7 @@ pub of_keyword : (text : List ℕ) → Reading (read_keyword text) (first_keywor
 of_keyword [] = never
 of_keyword (c ∷ cs) = of_word (bytes_eq (c ∷ cs))
 
-pub of_lifetime : (wanted : List ℕ → Bool) → Reading (read_lifetime wanted)
-    (first_lifetime wanted)
+pub of_lifetime : (wanted : List ℕ → Bool) → Reading (read_lifetime wanted) (first_lifetime wanted)
 of_lifetime wanted =
     more is_joint_apostrophe (λ d inside span. refl) (read_word wanted)
     (first_if (is_ident_of wanted)) (of_word wanted)

@@ -54,8 +54,7 @@ length_ahead p = cc (length-map (marked_ahead p) (λ t. tree_span t.1), spans-ah
 
 pub same_length : (f g : Forest) (p q : Place) → view f p ≡ view g q
     → length (marked_ahead p) ≡ length (marked_ahead q)
-same_length f g p q e =
-    cc (length_ahead p, same_trees f g p q e, length_ahead q)
+same_length f g p q e = cc (length_ahead p, same_trees f g p q e, length_ahead q)
 
 -- the first span, if there is one
 abbrev first_span : List Span → Option Span

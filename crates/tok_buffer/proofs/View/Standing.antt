@@ -110,8 +110,7 @@ module _ (number : ℕ) (f : Forest) where
   }
 
   pub stands-empty : Stands number f empty_place
-  stands-empty =
-      record { settled = tt; holds = record { filled = tt; inside = tt; scoped = tt } }
+  stands-empty = record { settled = tt; holds = record { filled = tt; inside = tt; scoped = tt } }
 
   -- The content of a visible group, and the place after it.
   abbrev pub BothStand : Entered → Type 0

@@ -88,8 +88,7 @@ front-tells : (p : Place) → IsDescended p
 front-tells empty_place h = refl
 front-tells (at n s c (frame o p no_trees) []) h = refl
 front-tells (at n s c (frame o p no_trees) (l ∷ ls)) h = absurd h
-front-tells (at n s c (frame o p (tree (leaf l) f)) ls) h =
-    rw (erased-pass n s c o p (leaf l) f ls)
+front-tells (at n s c (frame o p (tree (leaf l) f)) ls) h = rw (erased-pass n s c o p (leaf l) f ls)
 front-tells (at n s c (frame o p (tree (group delimiter.None inside span) f)) ls) h = absurd h
 front-tells (at n s c (frame o p (tree (group d inside span) f)) ls) h =
     rw (erased-pass n s c o p (group d inside span) f ls)

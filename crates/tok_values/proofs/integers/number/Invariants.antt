@@ -6,8 +6,7 @@ use Rattle.tok_values.proofs.Digits.{step}
 use Rattle.tok_values.proofs.integers.number.Given as goal
 
 abbrev pub invariant-loop-byte : goal.invariant-loop-byte
-invariant-loop-byte l =
-    fold (step l.radix) l.value l.rest ≡ number l.radix (chars l.fn.digits)
+invariant-loop-byte l = fold (step l.radix) l.value l.rest ≡ number l.radix (chars l.fn.digits)
 
 abbrev pub decreases-loop-byte : goal.decreases-loop-byte
 decreases-loop-byte l = length l.rest

@@ -5,5 +5,4 @@ use Rattle.tok_values.specs.Suffixes.{after_marks}
 use Rattle.tok_values.proofs.suffixes.after_marks.Goals as goal
 
 pub loop-c-init : goal.loop-c-init
-loop-c-init c =
-    (IsUtf8-nil, c.utf8.text, ap (λ w. after_marks w (chars c.args.text.now)) chars-nil)
+loop-c-init c = (IsUtf8-nil, c.utf8.text, ap (λ w. after_marks w (chars c.args.text.now)) chars-nil)

@@ -11,8 +11,7 @@ use Rattle.tok_buffer.proofs.ahead.Ahead.next.Goals as goal
 use Rattle.tok_buffer.proofs.ahead.Ahead.next.Goals.{In-Group}
 
 pub overflow_add-position : goal.overflow_add-position
-overflow_add-position c =
-    omega (arith, onward_fits c.args.self c.requires, c.args.self.in_range)
+overflow_add-position c = omega (arith, onward_fits c.args.self c.requires, c.args.self.in_range)
 
 pub new-onward-requires : goal.new-onward-requires
 new-onward-requires c =
@@ -20,8 +19,7 @@ new-onward-requires c =
     record { in_buffer = a.in_buffer; within = onward_within a c.requires }
 
 pub entry-requires : goal.entry-requires
-entry-requires c =
-    let a = c.args.self in omega (arith, onward_fits a c.requires, a.in_buffer)
+entry-requires c = let a = c.args.self in omega (arith, onward_fits a c.requires, a.in_buffer)
 
 pub returns-in-Leaf : goal.returns-in-Leaf
 returns-in-Leaf c =

@@ -11,11 +11,9 @@ returns-in_ok-stream-in-Some c =
     let p = place_of c.args.self in
     let e : Entered = record {
       delimiter = c.in-Some.delimiter;
-      span =
-          whole_span c.in-Some.span;
+      span = whole_span c.in-Some.span;
       content = place_of c.in-Some.content;
-      after =
-          place_of c.in-Some.after;
+      after = place_of c.in-Some.after;
     } in
     group_read p e c.in-Some.ensures
     ∙ sym (ap (λ t. Some (t ∷ [], e.after))

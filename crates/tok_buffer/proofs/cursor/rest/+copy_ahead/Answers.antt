@@ -1,9 +1,8 @@
 use Rattle.std.proofs.Common.{◌∙◌, refl, sym, ap, arith}
-use Rattle.tok_core.specs.Forest.{concat, group}
+use Rattle.tok_core.specs.Forest.{concat}
 use Rattle.tok_core.specs.Seen.{tree_of}
 use Rattle.tok_core.specs.declared.stream.TokenTree.TheVariants as made
 use Rattle.tok_core.proofs.Facts.{concat-none}
-use Rattle.tok_buffer.specs.Private.Steps.{ahead_place}
 use Rattle.tok_buffer.specs.Rest.{rest}
 use Rattle.tok_buffer.proofs.Rests.{rest_done, rest_group, tree_copied}
 use Rattle.tok_buffer.proofs.Steps.{ahead_at}
@@ -25,12 +24,9 @@ loop-position-preserved t c =
       same = e.copied
           ∙ ap (λ z. concat c.append.new.self (rest z)) (sym (ahead_at g.after b _ _
           (f.after.buffer ∙ n.buffer) refl (f.after.scope ∙ n.scope)))
-          ∙ tree_copied c.append.new.self c.loop-position.stream (rest (ahead_place g.after))
-          (rest (ahead_place a))
-          (group g.opening.now.delimiter (rest (ahead_place g.inside)) g.opening.now.span)
-          (tree_of (made.Group c.new-copy.result)) c.in_ok-append.ensures.ok
-          (c.new-copy.ensures ∙ ap (λ z. group g.opening.now.delimiter z g.opening.now.span)
-          c.in_ok-content.ensures) (rest_group a g f)
+          ∙ tree_copied _ _ _ _ _ (tree_of (made.Group c.new-copy.result))
+          c.in_ok-append.ensures.ok (rw (c.new-copy.ensures, c.in_ok-content.ensures))
+          (rest_group a g f)
           ∙ ap (λ z. concat c.loop-position.stream (rest z))
           (ahead_at a b _ _ n.buffer n.position n.scope)
           ∙ i.same;
@@ -40,8 +36,6 @@ pub returns : goal.returns
 returns t c =
     let i = c.loop-position.invariant in
     let b = c.args.buffer.now in
-    rw (
-      rest_done b.number b.forest c.loop-position.position c.args.scope i.within
-          c.loop-position-test.false,
-      concat-none,
-    ) at i.same
+    let none = rest_done b.number b.forest c.loop-position.position c.args.scope i.within
+    c.loop-position-test.false in
+    rw (none, concat-none) at i.same

@@ -1,5 +1,5 @@
 use Rattle.std.proofs.Common.{◌≡◌, ◌∙◌, ◌++◌, ℕ, List, [], false}
-use Rattle.std.proofs.Common.{append_assoc, refl, sym, ap, arith, rules}
+use Rattle.std.proofs.Common.{append_assoc, refl, ap, arith, rules}
 use Rattle.std.proofs.Output.{has_written_append}
 use Rattle.std.proofs.lemmas.Grind.{put_four}
 use Rattle.std.proofs.lemmas.List.{append-nil}
@@ -7,7 +7,6 @@ use Rattle.tok_core.specs.Forest.{leaf}
 use Rattle.tok_core.specs.Text.{text, text_after, space}
 use Rattle.tok_leaves.specs.Leaves.{leaf_text}
 use Rattle.tok_lexical.specs.Delimiters.{opening}
-use Rattle.tok_buffer.specs.Moves.{place_at}
 use Rattle.tok_buffer.specs.Private.Layout.{leaf_in}
 use Rattle.tok_buffer.specs.Private.Steps.{ahead_place}
 use Rattle.tok_buffer.specs.Rest.{rest}
@@ -51,12 +50,7 @@ loop-ahead-preserved-in-Leaf g t c =
           let one = c.write_leaf.ensures wrote.plain (search rules) in (
             done ++ (space b ++ leaf_text l),
             has_written_append _ _ _ _ _ _ wrote one,
-            leaf_written done (space b) (leaf_text l) _
-                ∙ ap (λ z. done ++ (space b
-                ++ (leaf_text l ++ text_after z (rest (ahead_place c.in-Leaf.after)))))
-                c.is_joint-is_glued.ensures
-                ∙ ap (λ z. done ++ text_after b z) (sym here)
-                ∙ more,
+            rw (leaf_written, c.is_joint-is_glued.ensures) (rw here at more),
           );
     }
 
@@ -80,13 +74,8 @@ loop-ahead-preserved-in-Group g t c =
           let last = c.closing.result.now in (
             done ++ ((space b ++ opening o.delimiter) ++ (inside ++ last)),
             put_four _ _ _ _ _ _ _ _ _ _ _ wrote one two three refl,
-            group_written done (space b) (opening o.delimiter) inside last _
-                ∙ ap (λ z. done
-                ++ (space b ++ ((opening o.delimiter ++ (inside ++ z)) ++ after)))
-                c.closing.ensures
-                ∙ ap (λ z. done ++ text_after b z)
-                (sym (rest_group c.loop-ahead.ahead c.in-Group.group f))
-                ∙ more,
+            rw (group_written, c.closing.ensures)
+                (rw (rest_group c.loop-ahead.ahead c.in-Group.group f) at more),
           );
     }
 
@@ -94,13 +83,7 @@ pub returns : goal.returns
 returns g t c =
     λ plain ok.
     let a = c.loop-ahead.ahead in
-    let b = c.args.buffer.now in
     let (done, wrote, more) = c.loop-ahead.invariant.written plain in
-    let whole : done ≡ text (rest (place_at b.number b.forest c.args.from c.args.scope)) =
-    sym (append-nil done)
-    ∙ ap (λ z. done ++ text_after c.loop-ahead.is_glued z)
-    (sym (rest_done a.buffer.now.number a.buffer.now.forest a.position a.scope a.within
-    c.loop-ahead-test.false))
-    ∙ more
-    in
-    rw whole at wrote
+    let empty = rest_done a.buffer.now.number a.buffer.now.forest a.position a.scope a.within
+    c.loop-ahead-test.false in
+    rw (rw (empty, append-nil) at more) at wrote

@@ -2,7 +2,6 @@ use Rattle.std.proofs.Common.{◌∙◌, ◌+◌, ◌-◌, refl, sym, ap, arith}
 use Rattle.std.specs.Prelude.{not}
 use Rattle.tok_core.specs.Forest.{leaf}
 use Rattle.tok_buffer.specs.Ahead.{first_of}
-use Rattle.tok_buffer.specs.Moves.{place_at}
 use Rattle.tok_buffer.specs.Private.Layout.{leaf_in}
 use Rattle.tok_buffer.specs.Private.Steps.{ahead_place}
 use Rattle.tok_buffer.proofs.Scans.{shown, shown_is, shown_front, shown_open, shown_close, shown_done}
@@ -10,22 +9,15 @@ use Rattle.tok_buffer.proofs.cursor.spans.scan.Goals as goal
 
 pub returns-in-Leaf : goal.returns-in-Leaf
 returns-in-Leaf c =
-    let b = c.args.buffer.now in
-    let d = c.loop-ahead.depth in
-    rw c.span.ensures
-    (sym (shown_front d (ahead_place c.loop-ahead.ahead) (leaf (leaf_in c.in-Leaf.leaf))
-    c.in-Leaf.ensures.0 refl)
-    ∙ ap first_of (c.loop-ahead.invariant.same
-    ∙ sym (shown_is (place_at b.number b.forest c.args.from c.args.scope))))
+    let found = shown_front c.loop-ahead.depth (ahead_place c.loop-ahead.ahead)
+    (leaf (leaf_in c.in-Leaf.leaf)) c.in-Leaf.ensures.0 refl in
+    rw (c.span.ensures, shown_is, ← c.loop-ahead.invariant.same) (sym found)
 
 pub returns-then-not-same : goal.returns-then-not-same
 returns-then-not-same c =
-    let b = c.args.buffer.now in
-    let f = c.in-Group.ensures in
-    sym (shown_front c.loop-ahead.depth (ahead_place c.loop-ahead.ahead) _ f.found
-    (ap not (sym c.same.ensures ∙ c.if-not-same.true)))
-    ∙ ap first_of (c.loop-ahead.invariant.same
-    ∙ sym (shown_is (place_at b.number b.forest c.args.from c.args.scope)))
+    let visible = ap not (sym c.same.ensures ∙ c.if-not-same.true) in
+    rw (shown_is, ← c.loop-ahead.invariant.same) (sym (shown_front c.loop-ahead.depth
+    (ahead_place c.loop-ahead.ahead) _ c.in-Group.ensures.found visible))
 
 pub loop-ahead-preserved-in-Group : goal.loop-ahead-preserved-in-Group
 loop-ahead-preserved-in-Group c =
@@ -53,7 +45,5 @@ loop-ahead-preserved c =
 
 pub returns : goal.returns
 returns c =
-    let b = c.args.buffer.now in
-    ap first_of (sym (shown_done c.loop-ahead.depth c.loop-ahead.ahead c.loop-ahead-test.false)
-    ∙ c.loop-ahead.invariant.same
-    ∙ sym (shown_is (place_at b.number b.forest c.args.from c.args.scope)))
+    rw (shown_is, ← c.loop-ahead.invariant.same)
+    (ap first_of (sym (shown_done c.loop-ahead.depth c.loop-ahead.ahead c.loop-ahead-test.false)))

@@ -1,7 +1,6 @@
 use Rattle.std.proofs.Common.{◌≡◌, ◌∙◌, sym, ap}
-use Rattle.tok_buffer.specs.Spans.{enclosing_closing}
 use Rattle.tok_buffer.specs.Moves.{frames_at}
-use Rattle.tok_buffer.specs.Private.Layout.{entry_here, entry_of, entry_enclosing, leaf_in}
+use Rattle.tok_buffer.specs.Private.Layout.{entry_here, entry_of, leaf_in}
 use Rattle.tok_buffer.specs.declared.entry.Entry.TheVariants.{End}
 use Rattle.tok_buffer.proofs.Enclosing.{enclosing_entry}
 use Rattle.tok_buffer.proofs.Befores.{end_current, leaf_current, group_current}
@@ -24,10 +23,7 @@ returns-in-Group c = group_current (frames_at c.args.buffer.now.forest c.args.po
 
 pub returns-in-End : goal.returns-in-End
 returns-in-End c =
-    let F = c.args.buffer.now.forest in
-    let e : entry_here (frames_at F c.args.position).0 ≡ End c.in-End.back = sym c.entry.ensures
-    ∙ c.held.ensures ∙ ap entry_of c.in-End.is in
-    ap (λ r. r.1) c.closing.ensures
-    ∙ ap (λ x. enclosing_closing (entry_enclosing x)) c.entry-in-End.ensures
-    ∙ ap enclosing_closing (enclosing_entry F c.args.position c.in-End.back c.requires e).1
-    ∙ end_current (frames_at F c.args.position).0 c.in-End.back e
+    let e : entry_here (frames_at c.args.buffer.now.forest c.args.position).0 ≡ End c.in-End.back =
+    sym c.entry.ensures ∙ c.held.ensures ∙ ap entry_of c.in-End.is in
+    let r = enclosing_entry c.args.buffer.now.forest c.args.position c.in-End.back c.requires e in
+    rw (c.closing.ensures, c.entry-in-End.ensures, r.1) (end_current _ c.in-End.back e)
