@@ -1,5 +1,5 @@
 -- What a rejected entry says: no forest is denoted, and the entries before it change no reason.
-use Rattle.std.proofs.Common.{◌≡◌, ℕ, ◌+◌, ◌-◌, ◌<◌, ◌≤◌, List, [], ◌∷◌, ◌++◌, length, refl, ap, sym, ◌∙◌, subst, arith}
+use Rattle.std.proofs.Common.{◌≡◌, ℕ, ◌+◌, ◌-◌, ◌<◌, ◌≤◌, List, [], ◌∷◌, ◌++◌, length, refl, ap, sym, ◌∙◌, arith}
 use Rattle.std.proofs.Common.{append_assoc, length-append}
 use Rattle.std.proofs.Math.Nat.{le-max_left}
 use Rattle.std.specs.Prelude.{suc}
@@ -42,10 +42,7 @@ moved : (number at levels here begin : ℕ) (es left : List Entry) (bs rest : Li
     (named : ℕ) → here ≡ number → begin ≡ at → es ≡ left → bs ≡ rest
     → BlamesFrom here begin levels left rest why named → BlamesFrom number at levels es bs why named
 moved number at levels here begin es left bs rest why named hn ha he hb blamed =
-    subst (λ x. BlamesFrom x at levels es bs why named) hn
-    (subst (λ x. BlamesFrom here x levels es bs why named) ha
-    (subst (λ x. BlamesFrom here begin levels x bs why named) (sym he)
-    (subst (λ x. BlamesFrom here begin levels left x why named) (sym hb) blamed)))
+    rw (← hn, ← ha, he, hb) blamed
 
 -- an entry after a forest
 pub blamed_after : (f : Forest) (number at levels here begin : ℕ) (es left : List Entry)
@@ -61,8 +58,8 @@ blamed_after (tree t f) number at levels here begin es left bs rest why named hn
     hd blamed =
     let next = at + length (tree_texts t) in
     entry_after number at levels es bs t (entries next f ++ left) (texts f ++ rest) why named (
-      he ∙ append_assoc (tree_entries at t) (entries next f) left,
-      hb ∙ append_assoc (tree_texts t) (texts f) rest,
+      cc (append_assoc (tree_entries at t) (entries next f) left),
+      cc (append_assoc (tree_texts t) (texts f) rest),
       ht,
       first_depth t f levels hd,
     )
@@ -98,8 +95,7 @@ blamed_end number at levels begin es left bs rest old mid goes ha none some =
     let over : rest ≡ [] → ⊥ = λ empty. absurd (omega (arith, some, ap length empty)) in
     blamed_on (Refused Shape here) number at levels here begin es left bs rest old mid goes
     (omega (arith, none)) ha
-    (subst (λ xs. BlamesFrom here begin levels xs rest Shape here) (sym (all_read left none))
-    (first_entry here begin levels [] rest Shape (refl, over)))
+    (rw (all_read left none) (first_entry here begin levels [] rest Shape (refl, over)))
 
 -- the entry of a leaf comes first
 pub blamed_leaf : (fault : EntryFault) (here begin levels : ℕ) (first : Entry)
@@ -109,8 +105,8 @@ pub blamed_leaf : (fault : EntryFault) (here begin levels : ℕ) (first : Entry)
 blamed_leaf fault here begin levels first after rest closed =
     on_rejected fault (λ why named. (named ≡ here) × RejectsLeaf begin first rest why)
     (BlamesFrom here begin levels (first ∷ after) rest)
-    (λ why named h. subst (λ n. BlamesFrom here begin levels (first ∷ after) rest why n)
-    (sym h.0) (first_entry here begin levels (first ∷ after) rest why (reason why h.1)))
+    (λ why named h. rw h.0
+    (first_entry here begin levels (first ∷ after) rest why (reason why h.1)))
   where
     reason : (why : Refusal) → RejectsLeaf begin first rest why
         → Rejects begin levels (first ∷ after) rest why
@@ -138,9 +134,8 @@ pub blamed_inside : (fault : EntryFault) (here next begin levels inner : ℕ) (e
 blamed_inside fault here next begin levels inner es rest inside words hl hn around =
     on_rejected fault (BlamesFrom next begin inner inside words)
     (BlamesFrom here begin levels es rest)
-    (λ why named blamed. subst (λ x. BlamesFrom here begin x es rest why named) (sym hl)
-    (entry_inside here begin inner es rest inside words why named around
-    (subst (λ x. BlamesFrom x begin inner inside words why named) hn blamed)))
+    (λ why named blamed. rw hl
+    (entry_inside here begin inner es rest inside words why named around (rw hn at blamed)))
 
 -- no tree is where an entry is rejected
 pub no_tree : (at levels : ℕ) (es : List Entry) (bs : List ℕ) (why : Refusal) (t : Tree)
@@ -170,12 +165,12 @@ enclosed_once at es bs is js ws vs (c, r, more, rest, oe, ob, ou, os)
     let z : Entry = edge 4 c (closing_span r) (at + length ws) (length is + 1) in
     let same : o ∷ (is ++ z ∷ more) ≡ edge 3 d (opening_span s) at (length js + 1)
     ∷ (js ++ edge 4 d (closing_span s) (at + length vs) (length js + 1) ∷ later) =
-    sym oe ∙ e in
+    cc in
     let k : z ≡ edge 4 d (closing_span s) (at + length vs) (length js + 1) =
     closing_is at o (is ++ z ∷ more) later js vs d s same is more z refl refl in
     let t : at + length ws ≡ at + length vs = ap (λ x. x.text_start) k in (
       inside_is at o (is ++ z ∷ more) later js vs d s same is more z refl refl,
-      fronts ws vs rest behind (omega (arith, t)) (sym ob ∙ hb),
+      fronts ws vs rest behind (omega (arith, t)) (cc),
     )
 
 -- what is inside a group's tree denotes a forest

@@ -1,12 +1,11 @@
 -- Entries and texts are blamed at one entry, for one reason.
-use Rattle.std.proofs.Common.{◌≡◌, ℕ, ◌+◌, List, [], ◌∷◌, length, refl, ap, sym, ◌∙◌, subst, arith}
+use Rattle.std.proofs.Common.{◌≡◌, ℕ, ◌+◌, List, [], ◌∷◌, refl, ap, sym, subst, arith}
 use Rattle.tok_entries.specs.declared.entry.Entry.{Entry}
 use Rattle.tok_entries.specs.declared.intake.fault.Refusal.{Refusal}
 use Rattle.tok_entries.specs.declared.intake.fault.Refusal.TheVariants.{Shape, Text, Depth}
 use Rattle.tok_entries.specs.Blames.{Blames, BlamesFrom, first_entry, entry_inside, entry_after}
 use Rattle.tok_entries.specs.Blames.{Encloses, FitsLeaf, OpensGroup, Rejects, TakesTree}
 use Rattle.tok_entries.specs.Denotes.{DenotesFrom}
-use Rattle.tok_entries.specs.Entries.{tree_entries, tree_texts}
 use Rattle.tok_entries.proofs.Blamed.{enclosed_once, enclosed_tree, no_nil, no_tree, none_denoted}
 use Rattle.tok_entries.proofs.Groups.{no_leaf_opens}
 use Rattle.tok_entries.proofs.Once.{head, tree_once}
@@ -19,7 +18,7 @@ fits_or_opens at e es bs fits (inside, words, (d, s, later, behind, he, hb, hu, 
 
 one_reason : (at levels : ℕ) (es : List Entry) (bs : List ℕ) (v w : Refusal)
     → Rejects at levels es bs v → Rejects at levels es bs w → v ≡ w
-one_reason at levels [] bs v w (p, over) (q, left) = p ∙ sym q
+one_reason at levels [] bs v w (p, over) (q, left) = cc
 one_reason at levels (e ∷ es) bs Shape Shape p q = refl
 one_reason at levels (e ∷ es) bs Text Text p q = refl
 one_reason at levels (e ∷ es) bs Depth Depth p q = refl
@@ -47,9 +46,7 @@ no_opening at levels (e ∷ es) bs Depth inside words (opens, low) around =
 module _ (at begin : ℕ) (es fs : List Entry) (bs cs : List ℕ) (ha : begin ≡ at) (he : fs ≡ es)
     (hb : cs ≡ bs) where
   moved : (P : ℕ → List Entry → List ℕ → Type 0) → P begin fs cs → P at es bs
-  moved P p =
-      subst (λ n. P n es bs) ha
-      (subst (λ xs. P begin xs bs) he (subst (λ xs. P begin fs xs) hb p))
+  moved P p = rw (ha, he, hb) at p
 
 -- the second of two that are blamed, with the entries of the first
 once : {number at levels : ℕ} {es : List Entry} {bs : List ℕ} {v : Refusal} {named : ℕ}
@@ -61,24 +58,24 @@ once (first_entry number at levels es bs v r) (first_entry count begin depth fs 
     hb = (
       one_reason at levels es bs v w r
           (moved at begin es fs bs cs ha he hb (λ n xs ys. Rejects n levels xs ys w)
-          (subst (λ n. Rejects begin n fs cs w) hl q)),
+          (rw hl at q)),
       sym hn,
     )
 once (first_entry number at levels es bs v r)
     (entry_inside count begin depth fs cs inside words w other around b) hn ha hl he hb =
     absurd (no_opening at depth es bs v inside words
-    (subst (λ n. Rejects at n es bs v) (sym hl) r)
+    (rw hl r)
     (moved at begin es fs bs cs ha he hb (λ n xs ys. Encloses n xs ys inside words) around))
 once (first_entry number at levels es bs v r)
     (entry_after count begin depth fs cs t later behind w other takes b) hn ha hl he hb =
     absurd (no_tree at levels es bs v t later behind r
     (moved at begin es fs bs cs ha he hb (λ n xs ys. TakesTree n levels xs ys t later behind)
-    (subst (λ n. TakesTree begin n fs cs t later behind) hl takes)))
+    (rw hl at takes)))
 once (entry_inside number at levels es bs inside words v named around b)
     (first_entry count begin depth fs cs w q) hn ha hl he hb =
     absurd (no_opening at levels es bs w inside words
     (moved at begin es fs bs cs ha he hb (λ n xs ys. Rejects n (levels + 1) xs ys w)
-    (subst (λ n. Rejects begin n fs cs w) hl q)) around)
+    (rw hl at q)) around)
 once (entry_inside number at levels es bs inside words v named around b)
     (entry_inside count begin depth fs cs held texts w other edges c) hn ha hl he hb =
     let (same, text) = enclosed_once at es bs held inside texts words
@@ -88,32 +85,27 @@ once (entry_inside number at levels es bs inside words v named around b)
     (entry_after count begin depth fs cs t later behind w other takes c) hn ha hl he hb =
     let (f, d) = enclosed_tree at levels es bs inside words t later behind around
     (moved at begin es fs bs cs ha he hb (λ n xs ys. TakesTree n (levels + 1) xs ys t later behind)
-    (subst (λ n. TakesTree begin n fs cs t later behind) hl takes)) in
+    (rw hl at takes)) in
     absurd (none_denoted b f d)
 once (entry_after number at levels es bs t later behind v named takes b)
     (first_entry count begin depth fs cs w q) hn ha hl he hb =
     absurd (no_tree at levels es bs w t later behind
     (moved at begin es fs bs cs ha he hb (λ n xs ys. Rejects n levels xs ys w)
-    (subst (λ n. Rejects begin n fs cs w) hl q)) takes)
+    (rw hl at q)) takes)
 once (entry_after number at levels es bs t later behind v named takes b)
     (entry_inside count begin depth fs cs held texts w other edges c) hn ha hl he hb =
     let (f, d) = enclosed_tree at depth es bs held texts t later behind
     (moved at begin es fs bs cs ha he hb (λ n xs ys. Encloses n xs ys held texts) edges)
-    (subst (λ n. TakesTree at n es bs t later behind) (sym hl) takes) in
+    (rw hl takes) in
     absurd (none_denoted c f (subst (λ n. DenotesFrom n depth held texts f) (sym ha) d))
 once (entry_after number at levels es bs t later behind v named takes b)
     (entry_after count begin depth fs cs u rest beyond w other passes c) hn ha hl he hb =
     let y : TakesTree at levels es bs u rest beyond =
     moved at begin es fs bs cs ha he hb (λ n xs ys. TakesTree n levels xs ys u rest beyond)
-    (subst (λ n. TakesTree begin n fs cs u rest beyond) hl passes) in
+    (rw hl at passes) in
     let (same, ks, ts) = tree_once at u t rest later beyond behind
-    (sym y.0 ∙ takes.0) (sym y.1 ∙ takes.1) y.2 takes.2 in
-    once b c
-    (ap (λ n. n + length (tree_entries begin u)) hn
-    ∙ ap (λ n. number + length (tree_entries n u)) ha
-    ∙ ap (λ x. number + length (tree_entries at x)) same)
-    (ap (λ n. n + length (tree_texts u)) ha ∙ ap (λ x. at + length (tree_texts x)) same)
-    hl ks ts
+    (cc (y.0, takes.0)) (cc (y.1, takes.1)) y.2 takes.2 in
+    once b c (cc) (cc) hl ks ts
 
 pub blamed_once : (es : List Entry) (bs : List ℕ) (v w : Refusal) (named other : ℕ)
     → Blames es bs v named → Blames es bs w other → (v ≡ w) × (named ≡ other)

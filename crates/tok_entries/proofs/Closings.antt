@@ -1,7 +1,6 @@
 -- A group closes around what is left of it, or its opening is taken back.
-use Rattle.std.proofs.Common.{◌≡◌, ◌<◌, List, [], ◌∷◌, ◌++◌, true, length, refl, ap, sym, ◌∙◌, arith}
+use Rattle.std.proofs.Common.{◌≡◌, ◌<◌, List, [], ◌∷◌, ◌++◌, true, length, refl, ap, sym, arith}
 use Rattle.std.proofs.Common.{length-append}
-use Rattle.std.specs.Prelude.{cond}
 use Rattle.tok_lexical.specs.declared.delimiter.Delimiter.{Delimiter}
 use Rattle.tok_lexical.specs.declared.delimiter.Delimiter.TheVariants.{Parenthesis, Brace, Bracket, None}
 use Rattle.tok_leaves.specs.declared.span.Span.{Span}
@@ -23,7 +22,7 @@ kept_visible Bracket f s h = refl
 pub kept_filled : (d : Delimiter) (f : Forest) (s : Span) → has_trees (pruned f) ≡ true
     → pruned (tree (group d f s) no_trees) ≡ tree (group d (pruned f) s) no_trees
 kept_filled None f s h =
-    ap (λ b. cond b (tree (group None (pruned f) s) no_trees) no_trees) (sym (has_pruned f) ∙ h)
+    rw (← has_pruned f, h)
 kept_filled Parenthesis f s h = refl
 kept_filled Brace f s h = refl
 kept_filled Bracket f s h = refl
@@ -31,9 +30,7 @@ kept_filled Bracket f s h = refl
 pub left_out : (d : Delimiter) (f : Forest) (s : Span) → d ≡ None → pruned f ≡ no_trees
     → pruned (tree (group d f s) no_trees) ≡ no_trees
 left_out d f s e h =
-    ap (λ x. pruned (tree (group x f s) no_trees)) e
-    ∙ ap (λ b. cond b (tree (group None (pruned f) s) no_trees) no_trees)
-    (sym (has_pruned f) ∙ ap has_trees h)
+    rw (e, ← has_pruned f, h)
 
 -- two lists with one element more
 outer_same : (xs ys : List Forest) (x y : Forest) → xs ++ x ∷ [] ≡ ys ++ y ∷ [] → xs ≡ ys
@@ -48,23 +45,23 @@ inner_same xs ys x y e =
 
 same_levels : (outer : List Forest) (inner : Forest) (new : Levels) → new.outer ≡ outer
     → new.inner ≡ inner → new ≡ record { outer = outer; inner = inner }
-same_levels outer inner new p q =
-    ap (λ x. record { outer = x; inner = new.inner }) p
-    ∙ ap (λ x. record { outer = outer; inner = x }) q
+same_levels outer inner new p q = rw (← p, ← q)
 
 pub taken_back : (old new around : Levels) (d : Delimiter) (f : Forest) (s : Span) → d ≡ None
     → old ≡ opened new → old ≡ add_forest (pruned f) (opened around)
     → new ≡ add_forest (pruned (tree (group d f s) no_trees)) around
 taken_back old new around d f s hd hn ho =
-    let both : opened new ≡ add_forest (pruned f) (opened around) = sym hn ∙ ho in
+    let both : opened new ≡ add_forest (pruned f) (opened around) = cc in
     let outers : new.outer ++ new.inner ∷ [] ≡ around.outer ++ around.inner ∷ [] =
     ap (λ x. x.outer) both in
     let empty : pruned f ≡ no_trees = sym (ap (λ x. x.inner) both) in
     same_levels around.outer (concat around.inner (pruned (tree (group d f s) no_trees))) new
     (outer_same new.outer around.outer new.inner around.inner outers)
-    (inner_same new.outer around.outer new.inner around.inner outers
-    ∙ sym (concat-none around.inner)
-    ∙ ap (λ x. concat around.inner x) (sym (left_out d f s hd empty)))
+    (cc (
+      inner_same new.outer around.outer new.inner around.inner outers,
+      concat-none around.inner,
+      left_out d f s hd empty,
+    ))
 
 pub closed : (old new around : Levels) (d : Delimiter) (f : Forest) (s : Span)
     → pruned (tree (group d f s) no_trees) ≡ tree (group d (pruned f) s) no_trees
@@ -72,13 +69,10 @@ pub closed : (old new around : Levels) (d : Delimiter) (f : Forest) (s : Span)
     → new ≡ add_forest (pruned (tree (group d f s) no_trees)) around
 closed old new around d f s keep (g, hg, hn) ho =
     let outers : new.outer ++ g ∷ [] ≡ around.outer ++ around.inner ∷ [] =
-    sym hg ∙ ap (λ x. x.outer) ho in
+    cc in
     same_levels around.outer (concat around.inner (pruned (tree (group d f s) no_trees))) new
     (outer_same new.outer around.outer g around.inner outers)
-    (hn ∙ ap (λ x. concat x (tree (group d old.inner s) no_trees))
-    (inner_same new.outer around.outer g around.inner outers)
-    ∙ ap (λ x. concat around.inner (tree (group d x s) no_trees)) (ap (λ x. x.inner) ho)
-    ∙ ap (λ x. concat around.inner x) (sym keep))
+    (cc (inner_same new.outer around.outer g around.inner outers))
 
 -- the level that is closed is the innermost one, of a tree at least or in visible delimiters
 pub closed_visible : (old new around : Levels) (d : Delimiter) (f : Forest) (s : Span)
@@ -91,7 +85,7 @@ pub closed_filled : (old new around : Levels) (d : Delimiter) (f : Forest) (s : 
     → has_trees old.inner ≡ true → Closes d s old new → old ≡ add_forest (pruned f) (opened around)
     → new ≡ add_forest (pruned (tree (group d f s) no_trees)) around
 closed_filled old new around d f s h c e =
-    closed old new around d f s (kept_filled d f s (sym (ap (λ x. has_trees x.inner) e) ∙ h)) c e
+    closed old new around d f s (kept_filled d f s (rw e at h)) c e
 
 -- a level is open
 pub some_open : (s around : Levels) (f : Forest) → s ≡ add_forest f (opened around)

@@ -9,7 +9,7 @@ use Rattle.tok_leaves.specs.Spans.{source, opening_span, closing_span}
 use Rattle.tok_core.specs.Forest.{group, Forest}
 use Rattle.tok_core.specs.Weight.{weight}
 use Rattle.tok_entries.specs.declared.entry.Entry.{Entry}
-use Rattle.tok_entries.specs.Entries.{edge, entries, texts, tree_entries, delimiter_number, first_byte, end_byte}
+use Rattle.tok_entries.specs.Entries.{edge, entries, texts, tree_entries, delimiter_number}
 use Rattle.tok_entries.specs.declared.intake.group.GroupParts.{GroupParts}
 use Rattle.tok_entries.specs.Denotes.{DenotesFrom}
 use Rattle.tok_entries.specs.Blames.{Encloses, FitsLeaf, OpensGroup, TakesTree}
@@ -60,20 +60,18 @@ module _ (at : ℕ) (first : Entry) (after later held : List Entry) (words : Lis
 
     pub start_is : (a b : ℕ) → s ≡ source 0 a b → first.start ≡ a
     start_is a b h =
-        ap (λ x. x.start) opening_is ∙ ap (λ x. first_byte (opening_span x)) h ∙ opening_first a b
+        cc (opening_is, opening_first a b)
 
     pub end_is : (a b : ℕ) → s ≡ source 0 a b → closing.end ≡ b
     end_is a b h =
-        ap (λ x. x.end) closing_is ∙ ap (λ x. end_byte (closing_span x)) h ∙ closing_last a b
+        cc (closing_is, closing_last a b)
 
     pub span_is : IsInSource s → s ≡ source 0 first.start closing.end
-    span_is (a, b, le, h) =
-        h ∙ ap (λ n. source 0 n b) (sym (start_is a b h))
-        ∙ ap (λ n. source 0 first.start n) (sym (end_is a b h))
+    span_is (a, b, le, h) = cc (start_is a b h, end_is a b h)
 
     pub delimiter_is : (c : Delimiter) → delimiter_number c ≡ first.delimiter → d ≡ c
     delimiter_is c h =
-        delimiter_once d c (sym (ap (λ x. x.delimiter) opening_is) ∙ sym h)
+        delimiter_once d c (cc opening_is)
 
 -- no place for the closing
 pub no_cut : (at k : ℕ) (first : Entry) (after : List Entry) (bs : List ℕ) → k ≡ first.distance
@@ -82,7 +80,7 @@ pub no_cut : (at k : ℕ) (first : Entry) (after : List Entry) (bs : List ℕ) �
 no_cut at k first after bs hk none (held, words, (d, s, later, behind, e, hb, hu, hs)) =
     none held later (end_of at first after later held words d s e)
     (after_is at first after later held words d s e)
-    (hk ∙ distance_is at first after later held words d s e)
+    (cc (distance_is at first after later held words d s e))
 
 -- no texts up to the closing
 pub no_words : (at end : ℕ) (first closing : Entry) (after inside others : List Entry) (bs : List ℕ)
@@ -126,13 +124,8 @@ no_edges at first closing after inside others bs c r cut far hc hr none
     let k : length held + 1 ≡ first.distance = sym (ap (λ x. x.distance) o) in
     let t : at + length words ≡ closing.text_start = sym (ap (λ x. x.text_start) z) in
     none (
-      o ∙ ap (λ x. edge 3 d (opening_span s) at x) k
-          ∙ ap (λ x. edge 3 x (opening_span s) at first.distance) dc
-          ∙ ap (λ x. edge 3 c (opening_span x) at first.distance) sr,
-      z ∙ ap (λ x. edge 4 d (closing_span s) x (length held + 1)) t
-          ∙ ap (λ x. edge 4 d (closing_span s) closing.text_start x) k
-          ∙ ap (λ x. edge 4 x (closing_span s) closing.text_start first.distance) dc
-          ∙ ap (λ x. edge 4 c (closing_span x) closing.text_start first.distance) sr,
+      rw (k, dc, sr) at o,
+      rw (t, k, dc, sr) at z,
     )
 
 -- an opening is no leaf's
@@ -150,8 +143,7 @@ parts_open at first after bs p (po, pa, pb, ps) u = (
   p.span,
   p.later.now,
   p.behind.now,
-  ap (λ x. x ∷ after) po
-      ∙ ap (λ xs. edge 3 p.delimiter (opening_span p.span) at (length p.inside.now + 1) ∷ xs) pa,
+  rw (← po, ← pa),
   pb,
   u,
   ps,
@@ -167,11 +159,7 @@ tree_opens at es later bs behind d f s e hb hf hs =
       s,
       later,
       behind,
-      e ∙ ap (λ n. edge 3 d (opening_span s) at (n + 1) ∷ ((entries at f
-          ++ edge 4 d (closing_span s) (at + length (texts f)) (n + 1) ∷ []) ++ later))
-          (sym (length-entries at f))
-          ∙ ap (λ xs. edge 3 d (opening_span s) at (length (entries at f) + 1) ∷ xs)
-          (append_assoc (entries at f) (z ∷ []) later),
+      rw (append_assoc, ← length-entries at f) at e,
       hb,
       utf8_texts f hf,
       hs,
@@ -188,15 +176,8 @@ group_taken at levels inner first after bs p f hn (po, pa, pb, ps) (he, hb, hi, 
     let n : length p.inside.now + 1 ≡ weight f + 1 =
     omega (arith, ap length he, length-entries at f) in
     let z : Entry = edge 4 d (closing_span s) (at + length (texts f)) (weight f + 1) in (
-      ap (λ x. x ∷ after) (po ∙ ap (λ k. edge 3 d (opening_span s) at k) n)
-          ∙ ap (λ x. edge 3 d (opening_span s) at (weight f + 1) ∷ x)
-          (pa ∙ ap (λ x. p.inside.now ++ edge 4 d (closing_span s) (at + length x)
-          (length p.inside.now + 1) ∷ p.later.now) hb
-          ∙ ap (λ k. p.inside.now ++ edge 4 d (closing_span s) (at + length (texts f)) k
-          ∷ p.later.now) n
-          ∙ ap (λ x. x ++ z ∷ p.later.now) he
-          ∙ sym (append_assoc (entries at f) (z ∷ []) p.later.now)),
-      pb ∙ ap (λ x. x ++ p.behind.now) hb,
+      cc (append_assoc (entries at f) (z ∷ []) p.later.now),
+      cc,
       (hi, ps),
       max-le (omega (arith, hn, hd)) (omega arith),
     )

@@ -6,7 +6,7 @@ use Rattle.std.proofs.lemmas.Bool.{false≢true, ltb-true}
 use Rattle.std.proofs.lemmas.List.{append-nil}
 use Rattle.std.proofs.lemmas.Str.{encode_ascii}
 use Rattle.std.proofs.Math.Seq.{drop-append_seam, take-append_seam}
-use Rattle.std.specs.Prelude.{cond, nat_lt, slice_index, slice_index_or, suc}
+use Rattle.std.specs.Prelude.{cond, nat_lt, slice_index_or, suc}
 use Rattle.tok_lexical.specs.declared.delimiter.Delimiter.{Delimiter}
 use Rattle.tok_leaves.specs.declared.punct.Spacing.{Spacing}
 use Rattle.tok_leaves.specs.declared.punct.Spacing.TheVariants.{Alone, Joint}
@@ -15,7 +15,7 @@ use Rattle.tok_leaves.specs.declared.span.Origin.TheVariants.{CallSite, Source}
 use Rattle.tok_leaves.specs.declared.span.Span.{Span}
 use Rattle.tok_leaves.specs.Leaves.{Leaf, ident, punct, literal, leaf_text}
 use Rattle.tok_leaves.specs.Spans.{source, opening_span, closing_span}
-use Rattle.tok_core.specs.Building.{Levels, add_leaf, opened, Closes, but_last, last_of, levels_of}
+use Rattle.tok_core.specs.Building.{Levels, add_leaf, opened, Closes, but_last, last_of}
 use Rattle.tok_core.specs.Code.{delimiter_back}
 use Rattle.tok_core.specs.Forest.{Tree, leaf, group, Forest, no_trees, tree, concat}
 use Rattle.tok_core.specs.Weight.{weight}
@@ -27,7 +27,7 @@ use Rattle.tok_entries.specs.Entries.{edge, end_byte, entries, first_byte}
 use Rattle.tok_entries.specs.Entries.{leaf_entry, spacing_number, texts, tree_entries, tree_texts}
 use Rattle.tok_entries.specs.Private.Laid.{all_fit, fits, fits_leaf, fits_tree, is_in_source, IsLaid}
 use Rattle.tok_entries.specs.Private.Laid.{laid, laid_texts, leaf_of, levels_in, places, spacing_of}
-use Rattle.tok_entries.specs.Private.Laid.{stack_entries, stack_entry, stack_group, stack_tree}
+use Rattle.tok_entries.specs.Private.Laid.{stack_entries, stack_entry, stack_tree}
 use Rattle.tok_entries.specs.Private.Laid.{unclosed}
 use Rattle.tok_entries.proofs.Fillings.{fill_lays, length-entries}
 use Rattle.tok_entries.proofs.Steps.{entries_on, texts_on}
@@ -37,16 +37,13 @@ taken_text : (bs before text after : List ℕ) → bs ≡ before ++ (text ++ aft
     → take ((length before + length text) - length before) (drop (length before) bs) ≡ text
 taken_text bs before text after e =
     let n : (length before + length text) - length before ≡ length text = omega arith in
-    ap (λ xs. take ((length before + length text) - length before) (drop (length before) xs)) e
-    ∙ ap (take ((length before + length text) - length before))
-    (drop-append_seam before (text ++ after))
-    ∙ ap (λ k. take k (text ++ after)) n ∙ take-append_seam text after
+    rw (e, drop-append_seam, n) (take-append_seam text after)
 
 in_source_back : (o : Origin) → is_in_source (record { origin = o }) ≡ true
     → source 0 (first_byte (record { origin = o })) (end_byte (record { origin = o }))
     ≡ record { origin = o }
 in_source_back CallSite h = absurd (false≢true h)
-in_source_back (Source n a b) h = ap (λ m. source m a b) (sym (eqb-true n 0 h))
+in_source_back (Source n a b) h = cc (eqb-true n 0 h)
 
 opens_at : (c : Bool) (n a x b : ℕ) → first_byte (cond c (source n a x) (source n a b)) ≡ a
 opens_at true n a x b = refl
@@ -62,10 +59,11 @@ edges_back : (o : Origin) → is_in_source (record { origin = o }) ≡ true
     (end_byte (closing_span (record { origin = o }))) ≡ record { origin = o }
 edges_back CallSite h = absurd (false≢true h)
 edges_back (Source n a b) h =
-    ap (λ x. source 0 x (end_byte (closing_span (source n a b))))
-    (opens_at (nat_lt a b) n a (a + 1) b)
-    ∙ ap (λ y. source 0 a y) (closes_at (nat_lt a b) n a (b - 1) b)
-    ∙ ap (λ m. source m a b) (sym (eqb-true n 0 h))
+    cc (
+      opens_at (nat_lt a b) n a (a + 1) b,
+      closes_at (nat_lt a b) n a (b - 1) b,
+      eqb-true n 0 h,
+    )
 
 spacing_back : (s : Spacing) → spacing_of (spacing_number s) ≡ s
 spacing_back Alone = refl
@@ -75,20 +73,16 @@ leaf_back : (bs before after : List ℕ) (l : Leaf) → fits_leaf l ≡ true
     → bs ≡ before ++ (leaf_text l ++ after) → leaf_of bs (leaf_entry (length before) l) ≡ l
 leaf_back bs before after (ident text span) h e =
     let s = in_source_back span.origin (first_of (is_in_source span) true h) in
-    ap (λ x. ident x (source 0 (first_byte span) (end_byte span)))
-    (taken_text bs before text after e) ∙ ap (ident text) s
+    cc (taken_text bs before text after e)
 leaf_back bs before after (punct c spacing span) h e =
     let s = in_source_back span.origin (first_of (is_in_source span) (nat_lt c 128) h) in
     let small = ltb-true c 128 (second_of (is_in_source span) (nat_lt c 128) h) in
-    ap (λ x. punct (slice_index x 0) (spacing_of (spacing_number spacing))
-    (source 0 (first_byte span) (end_byte span)))
-    (taken_text bs before (leaf_text (punct c spacing span)) after e ∙ encode_ascii c small)
-    ∙ ap (λ x. punct c x (source 0 (first_byte span) (end_byte span))) (spacing_back spacing)
-    ∙ ap (punct c spacing) s
+    let byte =
+    taken_text bs before (leaf_text (punct c spacing span)) after e ∙ encode_ascii c small in
+    rw byte (cc (spacing_back spacing))
 leaf_back bs before after (literal text span) h e =
     let s = in_source_back span.origin (first_of (is_in_source span) true h) in
-    ap (λ x. literal x (source 0 (first_byte span) (end_byte span)))
-    (taken_text bs before text after e) ∙ ap (literal text) s
+    cc (taken_text bs before text after e)
 
 module _ (bs : List ℕ) where
   stack-append : (xs ys : List Entry) (s : List (Forest × ℕ))
@@ -107,26 +101,22 @@ module _ (bs : List ℕ) where
         → fits_tree t ≡ true → bs ≡ before ++ (tree_texts t ++ after)
         → stack_entries bs (tree_entries (length before) t) ((f, z) ∷ s) ≡ (tree t f, z) ∷ s
     stack-tree (leaf l) before after f z s h e =
-        stack-leaf (length before) l ((f, z) ∷ s)
-        ∙ ap (λ k. (tree (leaf k) f, z) ∷ s) (leaf_back bs before after l h e)
+        cc (stack-leaf (length before) l ((f, z) ∷ s), leaf_back bs before after l h e)
     stack-tree (group d g p) before after f z s h e =
         let at = length before in
         let closing = edge 4 d (closing_span p) (at + length (texts g)) (weight g + 1) in
         let inside : stack_entries bs (entries at g ++ closing ∷ []) ((f, z) ∷ s)
         ≡ (g, end_byte (closing_span p)) ∷ (f, z) ∷ s =
-        stack-append (entries at g) (closing ∷ []) ((f, z) ∷ s)
-        ∙ stack-forest g before after no_trees (end_byte (closing_span p)) ((f, z) ∷ s)
-        (first_of (fits g) (is_in_source p) h) e
-        ∙ ap (λ x. (x, end_byte (closing_span p)) ∷ (f, z) ∷ s) (concat-none g) in
-        ap (stack_group (edge 3 d (opening_span p) at (weight g + 1))) inside
-        ∙ ap (λ x. (
-          tree (group x g
-              (source 0 (first_byte (opening_span p)) (end_byte (closing_span p)))) f,
-          z,
-        ) ∷ s)
-        (delimiter_back d)
-        ∙ ap (λ x. (tree (group d g x) f, z) ∷ s)
-        (edges_back p.origin (second_of (fits g) (is_in_source p) h))
+        cc (
+          stack-append (entries at g) (closing ∷ []) ((f, z) ∷ s),
+          stack-forest g before after no_trees (end_byte (closing_span p)) ((f, z) ∷ s)
+              (first_of (fits g) (is_in_source p) h) e,
+          concat-none g,
+        ) in
+        rw inside (cc (
+          delimiter_back d,
+          edges_back p.origin (second_of (fits g) (is_in_source p) h),
+        ))
 
     stack-forest : (g : Forest) (before after : List ℕ) (f : Forest) (z : ℕ)
         (s : List (Forest × ℕ)) → fits g ≡ true → bs ≡ before ++ (texts g ++ after)
@@ -134,17 +124,16 @@ module _ (bs : List ℕ) where
     stack-forest no_trees before after f z s h e = refl
     stack-forest (tree t g) before after f z s h e =
         let at = length before in
-        stack-append (tree_entries at t) (entries (at + length (tree_texts t)) g) ((f, z) ∷ s)
-        ∙ ap (λ n. stack_entries bs (tree_entries at t)
-        (stack_entries bs (entries n g) ((f, z) ∷ s)))
-        (sym (length-append before (tree_texts t)))
-        ∙ ap (stack_entries bs (tree_entries at t))
-        (stack-forest g (before ++ tree_texts t) after f z s (second_of (fits_tree t) (fits g) h)
-        (e ∙ ap (λ x. before ++ x) (append_assoc (tree_texts t) (texts g) after)
-        ∙ sym (append_assoc before (tree_texts t) (texts g ++ after))))
-        ∙ stack-tree t before (texts g ++ after) (concat g f) z s
-        (first_of (fits_tree t) (fits g) h)
-        (e ∙ ap (λ x. before ++ x) (append_assoc (tree_texts t) (texts g) after))
+        let whole : bs ≡ before ++ (tree_texts t ++ (texts g ++ after)) =
+        cc (append_assoc (tree_texts t) (texts g) after) in
+        cc (
+          stack-append (tree_entries at t) (entries (at + length (tree_texts t)) g) ((f, z) ∷ s),
+          length-append before (tree_texts t),
+          stack-forest g (before ++ tree_texts t) after f z s (second_of (fits_tree t) (fits g) h)
+              (cc (append_assoc before (tree_texts t) (texts g ++ after))),
+          stack-tree t before (texts g ++ after) (concat g f) z s
+              (first_of (fits_tree t) (fits g) h) whole,
+        )
 
   stack-laid : (s : List Forest) (f : Forest) (before : List ℕ) → all_fit s ≡ true
       → fits f ≡ true → bs ≡ before ++ (laid_texts s ++ texts f)
@@ -153,10 +142,8 @@ module _ (bs : List ℕ) where
       ((no_trees, 0) ∷ []) ≡ map (λ g. (g, 0)) (s ++ f ∷ [])
   stack-laid [] f before h k e =
       let n : length before + 0 ≡ length before = omega arith in
-      ap (λ m. stack_entries bs (entries m f) ((no_trees, 0) ∷ [])) n
-      ∙ stack-forest f before [] no_trees 0 [] k
-      (e ∙ ap (λ x. before ++ x) (sym (append-nil (texts f))))
-      ∙ ap (λ x. (x, 0) ∷ []) (concat-none f)
+      let all = stack-forest f before [] no_trees 0 [] k (cc (append-nil (texts f))) in
+      cc (concat-none f)
   stack-laid (g ∷ s) f before h k e =
       let at = length before in
       let to = at + length (texts g) in
@@ -164,45 +151,39 @@ module _ (bs : List ℕ) where
       let m : at + length (texts g ++ laid_texts s)
       ≡ length (before ++ texts g) + length (laid_texts s) =
       omega (arith, n, length-append (texts g) (laid_texts s)) in
-      let all = e ∙ ap (λ x. before ++ x) (append_assoc (texts g) (laid_texts s) (texts f)) in
-      ap (λ w. stack_entries bs w ((no_trees, 0) ∷ []))
-      (append_assoc (entries at g) (unclosed to ∷ laid to s)
-      (entries (at + length (texts g ++ laid_texts s)) f))
-      ∙ stack-append (entries at g)
-      (unclosed to ∷ (laid to s ++ entries (at + length (texts g ++ laid_texts s)) f))
-      ((no_trees, 0) ∷ [])
-      ∙ ap (λ w. stack_entries bs (entries at g) ((no_trees, 0) ∷ w))
-      (ap (λ x. stack_entries bs
-      (laid x s ++ entries (at + length (texts g ++ laid_texts s)) f) ((no_trees, 0) ∷ []))
-      (sym n)
-      ∙ ap (λ x. stack_entries bs (laid (length (before ++ texts g)) s ++ entries x f)
-      ((no_trees, 0) ∷ [])) m
-      ∙ stack-laid s f (before ++ texts g) (second_of (fits g) (all_fit s) h) k
-      (all ∙ sym (append_assoc before (texts g) (laid_texts s ++ texts f))))
-      ∙ stack-forest g before (laid_texts s ++ texts f) no_trees 0
-      (map (λ x. (x, 0)) (s ++ f ∷ [])) (first_of (fits g) (all_fit s) h) all
-      ∙ ap (λ x. (x, 0) ∷ map (λ y. (y, 0)) (s ++ f ∷ [])) (concat-none g)
+      let rest = entries (at + length (texts g ++ laid_texts s)) f in
+      let all : bs ≡ before ++ (texts g ++ (laid_texts s ++ texts f)) =
+      cc (append_assoc (texts g) (laid_texts s) (texts f)) in
+      cc (
+        append_assoc (entries at g) (unclosed to ∷ laid to s) rest,
+        stack-append (entries at g) (unclosed to ∷ (laid to s ++ rest)) ((no_trees, 0) ∷ []),
+        stack-laid s f (before ++ texts g) (second_of (fits g) (all_fit s) h) k
+            (cc (append_assoc before (texts g) (laid_texts s ++ texts f))),
+        stack-forest g before (laid_texts s ++ texts f) no_trees 0
+            (map (λ x. (x, 0)) (s ++ f ∷ [])) (first_of (fits g) (all_fit s) h) all,
+        concat-none g,
+      )
 
 map_back : (s : List Forest)
     → map (λ (f : Forest × ℕ). f.0) (map (λ (g : Forest). (g, 0)) s) ≡ s
 map_back [] = refl
-map_back (f ∷ s) = ap (λ x. f ∷ x) (map_back s)
+map_back (f ∷ s) = cc (map_back s)
 
 -- entries that are laid out so have these levels
 levels_are : (es : List Entry) (bs ps : List ℕ) (s : Levels) → IsLaid es bs ps s
     → levels_in es bs ≡ s
 levels_are es bs ps s (e, b, p, h) =
     let from_zero : length (laid_texts s.outer) ≡ 0 + length (laid_texts s.outer) = omega arith in
-    ap (λ x. levels_in x bs) e
-    ∙ ap (λ n. levels_in (laid 0 s.outer ++ entries n s.inner) bs) from_zero
-    ∙ ap (λ x. levels_of (map (λ f. f.0) x))
-    (stack-laid bs s.outer s.inner [] (first_of (all_fit s.outer) (fits s.inner) h)
-    (second_of (all_fit s.outer) (fits s.inner) h) b)
-    ∙ ap levels_of (map_back (s.outer ++ s.inner ∷ [])) ∙ levels_of-put s.outer s.inner
+    cc (
+      stack-laid bs s.outer s.inner [] (first_of (all_fit s.outer) (fits s.inner) h)
+          (second_of (all_fit s.outer) (fits s.inner) h) b,
+      map_back (s.outer ++ s.inner ∷ []),
+      levels_of-put s.outer s.inner,
+    )
 
 pub laid_now : (es : List Entry) (bs ps : List ℕ) (s : Levels) → IsLaid es bs ps s
     → IsLaid es bs ps (levels_in es bs)
-laid_now es bs ps s h = subst (IsLaid es bs ps) (sym (levels_are es bs ps s h)) h
+laid_now es bs ps s h = rw (levels_are es bs ps s h) h
 
 fits_on : (f : Forest) (t : Tree) → fits f ≡ true → fits_tree t ≡ true
     → fits (concat f (tree t no_trees)) ≡ true
@@ -221,11 +202,11 @@ tree_laid : (es fs : List Entry) (bs cs ps : List ℕ) (outer : List Forest) (f 
     → IsLaid fs cs ps (record { outer = outer; inner = concat f (tree t no_trees) })
 tree_laid es fs bs cs ps outer f t h k l p e y b z =
     let at = length (laid_texts outer) in (
-      y ∙ ap (λ x. x ++ tree_entries (at + length (texts f)) t) e
-          ∙ append_assoc (laid 0 outer) (entries at f) (tree_entries (at + length (texts f)) t)
-          ∙ ap (λ x. laid 0 outer ++ x) (sym (entries_on at f t)),
-      z ∙ ap (λ x. x ++ tree_texts t) b ∙ append_assoc (laid_texts outer) (texts f) (tree_texts t)
-          ∙ ap (λ x. laid_texts outer ++ x) (sym (texts_on f t)),
+      cc (
+        append_assoc (laid 0 outer) (entries at f) (tree_entries (at + length (texts f)) t),
+        entries_on at f t,
+      ),
+      cc (append_assoc (laid_texts outer) (texts f) (tree_texts t), texts_on f t),
       p,
       both_true (all_fit outer) (fits (concat f (tree t no_trees))) h (fits_on f t k l),
     )
@@ -235,10 +216,10 @@ leaf_laid : (es fs : List Entry) (bs cs ps : List ℕ) (s : Levels) (l : Leaf) �
     → IsLaid fs cs ps (add_leaf l s)
 leaf_laid es fs bs cs ps s l (e, b, p, h) k y z =
     let n : length bs ≡ length (laid_texts s.outer) + length (texts s.inner) =
-    ap length b ∙ length-append (laid_texts s.outer) (texts s.inner) in
+    cc (length-append (laid_texts s.outer) (texts s.inner)) in
     tree_laid es fs bs cs ps s.outer s.inner (leaf l)
     (first_of (all_fit s.outer) (fits s.inner) h) (second_of (all_fit s.outer) (fits s.inner) h)
-    k p e (y ∙ ap (λ m. es ++ leaf_entry m l ∷ []) n) b z
+    k p e (cc) b z
 
 -- the same, of the levels that are in the entries
 module _ (es fs : List Entry) (bs cs ps : List ℕ) (l : Leaf)
@@ -252,19 +233,19 @@ module _ (es fs : List Entry) (bs cs ps : List ℕ) (l : Leaf)
 
   pub leaf_shown : (old : Levels) → levels_in es bs ≡ old → levels_in fs cs ≡ add_leaf l old
   leaf_shown old e =
-      levels_are fs cs ps (add_leaf l (levels_in es bs)) now ∙ ap (add_leaf l) e
+      cc (levels_are fs cs ps (add_leaf l (levels_in es bs)) now)
 
 texts-put : (s : List Forest) (f : Forest) → laid_texts (s ++ f ∷ []) ≡ laid_texts s ++ texts f
 texts-put [] f = append-nil (texts f)
 texts-put (g ∷ s) f =
-    ap (λ x. texts g ++ x) (texts-put s f) ∙ sym (append_assoc (texts g) (laid_texts s) (texts f))
+    cc (texts-put s f, append_assoc (texts g) (laid_texts s) (texts f))
 
 laid-put : (at : ℕ) (s : List Forest) (f : Forest) → laid at (s ++ f ∷ [])
     ≡ (laid at s ++ entries (at + length (laid_texts s)) f)
     ++ unclosed (at + length (laid_texts s ++ texts f)) ∷ []
 laid-put at [] f =
     let n : at + 0 ≡ at = omega arith in
-    ap (λ m. entries m f ++ unclosed (at + length (texts f)) ∷ []) (sym n)
+    cc
 laid-put at (g ∷ s) f =
     let to = at + length (texts g) in
     let n : to + length (laid_texts s) ≡ at + length (texts g ++ laid_texts s) =
@@ -276,21 +257,17 @@ laid-put at (g ∷ s) f =
       ap length (append_assoc (texts g) (laid_texts s) (texts f)),
       length-append (texts g) (laid_texts s ++ texts f),
     ) in
-    ap (λ x. entries at g ++ unclosed to ∷ x) (laid-put to s f
-    ∙ ap (λ k. (laid to s ++ entries k f)
-    ++ unclosed (to + length (laid_texts s ++ texts f)) ∷ []) n
-    ∙ ap (λ k. (laid to s ++ entries (at + length (texts g ++ laid_texts s)) f)
-    ++ unclosed k ∷ []) m)
-    ∙ sym (append_assoc (entries at g)
-    (unclosed to ∷ (laid to s ++ entries (at + length (texts g ++ laid_texts s)) f))
-    (unclosed (at + length ((texts g ++ laid_texts s) ++ texts f)) ∷ []))
-    ∙ ap (λ x. x ++ unclosed (at + length ((texts g ++ laid_texts s) ++ texts f)) ∷ [])
-    (sym (append_assoc (entries at g) (unclosed to ∷ laid to s)
-    (entries (at + length (texts g ++ laid_texts s)) f)))
+    let rest = entries (at + length (texts g ++ laid_texts s)) f in
+    let last = unclosed (at + length ((texts g ++ laid_texts s) ++ texts f)) in
+    cc (
+      laid-put to s f,
+      append_assoc (entries at g) (unclosed to ∷ (laid to s ++ rest)) (last ∷ []),
+      append_assoc (entries at g) (unclosed to ∷ laid to s) rest,
+    )
 
 place : (n at : ℕ) (s : List Forest) (f : Forest) → places n (s ++ f ∷ [])
     ≡ places n s ++ (n + length (laid at s ++ entries (at + length (laid_texts s)) f)) ∷ []
-place n at [] f = ap (λ w. (n + w) ∷ []) (sym (length-entries (at + 0) f))
+place n at [] f = cc (length-entries (at + 0) f)
 place n at (g ∷ s) f =
     let to = at + length (texts g) in
     let k = to + length (laid_texts s) in
@@ -304,10 +281,7 @@ place n at (g ∷ s) f =
       length-append (entries at g) (unclosed to ∷ (laid to s ++ entries k f)),
       length-entries at g,
     ) in
-    ap (λ w. (n + weight g) ∷ w) (place (n + weight g + 1) to s f
-    ∙ ap (λ w. places (n + weight g + 1) s ++ w ∷ []) l)
-    ∙ ap (λ j. places n (g ∷ s)
-    ++ (n + length ((entries at g ++ unclosed to ∷ laid to s) ++ entries j f)) ∷ []) m
+    cc (place (n + weight g + 1) to s f)
 
 -- the same from the front on
 laid_first : (s : List Forest) (f : Forest) → laid 0 (s ++ f ∷ [])
@@ -316,9 +290,7 @@ laid_first : (s : List Forest) (f : Forest) → laid 0 (s ++ f ∷ [])
 laid_first s f =
     let n : 0 + length (laid_texts s) ≡ length (laid_texts s) = omega arith in
     let m : 0 + length (laid_texts s ++ texts f) ≡ length (laid_texts s ++ texts f) = omega arith in
-    laid-put 0 s f
-    ∙ ap (λ k. (laid 0 s ++ entries k f) ++ unclosed (0 + length (laid_texts s ++ texts f)) ∷ []) n
-    ∙ ap (λ k. (laid 0 s ++ entries (length (laid_texts s)) f) ++ unclosed k ∷ []) m
+    cc (laid-put 0 s f)
 
 first_place : (s : List Forest) (f : Forest) → places 0 (s ++ f ∷ [])
     ≡ places 0 s ++ length (laid 0 s ++ entries (length (laid_texts s)) f) ∷ []
@@ -327,9 +299,7 @@ first_place s f =
     let m : 0 + length (laid 0 s ++ entries (length (laid_texts s)) f)
     ≡ length (laid 0 s ++ entries (length (laid_texts s)) f) =
     omega arith in
-    place 0 0 s f
-    ∙ ap (λ k. places 0 s ++ (0 + length (laid 0 s ++ entries k f)) ∷ []) n
-    ∙ ap (λ k. places 0 s ++ k ∷ []) m
+    cc (place 0 0 s f)
 
 all_fit-put : (s : List Forest) (f : Forest) → all_fit s ≡ true → fits f ≡ true
     → all_fit (s ++ f ∷ []) ≡ true
@@ -341,13 +311,9 @@ all_fit-put (g ∷ s) f h k =
 open_laid : (es fs : List Entry) (bs ps qs : List ℕ) (s : Levels) → IsLaid es bs ps s
     → fs ≡ es ++ unclosed (length bs) ∷ [] → qs ≡ ps ++ length es ∷ [] → IsLaid fs bs qs (opened s)
 open_laid es fs bs ps qs s (e, b, p, h) y q = (
-  y ∙ ap (λ x. x ++ unclosed (length bs) ∷ []) e
-      ∙ ap (λ x. (laid 0 s.outer ++ entries (length (laid_texts s.outer)) s.inner)
-      ++ unclosed (length x) ∷ []) b
-      ∙ sym (laid_first s.outer s.inner) ∙ sym (append-nil (laid 0 (s.outer ++ s.inner ∷ []))),
-  b ∙ sym (texts-put s.outer s.inner) ∙ sym (append-nil (laid_texts (s.outer ++ s.inner ∷ []))),
-  q ∙ ap (λ x. x ++ length es ∷ []) p ∙ ap (λ x. places 0 s.outer ++ length x ∷ []) e
-      ∙ sym (first_place s.outer s.inner),
+  cc (laid_first s.outer s.inner, append-nil (laid 0 (s.outer ++ s.inner ∷ []))),
+  cc (texts-put s.outer s.inner, append-nil (laid_texts (s.outer ++ s.inner ∷ []))),
+  cc (first_place s.outer s.inner),
   both_true (all_fit (s.outer ++ s.inner ∷ [])) true
       (all_fit-put s.outer s.inner (first_of (all_fit s.outer) (fits s.inner) h)
       (second_of (all_fit s.outer) (fits s.inner) h)) refl,
@@ -362,8 +328,8 @@ module _ (es fs : List Entry) (bs ps qs : List ℕ) (h : IsLaid es bs ps (levels
 
   pub open_shown : (old : Levels) → levels_in es bs ≡ old → levels_in fs bs ≡ opened old
   open_shown old e =
-      levels_are fs bs qs (opened (levels_in es bs))
-      (open_laid es fs bs ps qs (levels_in es bs) h y q) ∙ ap opened e
+      cc (levels_are fs bs qs (opened (levels_in es bs))
+      (open_laid es fs bs ps qs (levels_in es bs) h y q))
 
 all_fit-but_last : (f : Forest) (s : List Forest) → all_fit (f ∷ s) ≡ true
     → (all_fit (but_last f s) ≡ true) × (fits (last_of f s) ≡ true)
@@ -398,8 +364,9 @@ leaves_level es bs os ps n s (e, b, p, h) some o = go s.outer refl some
         let split = is ∙ ends_in_last f t in
         let ends = one_end ps (places 0 around) n
         (length (laid 0 around ++ entries (length (laid_texts around)) last))
-        (sym o ∙ p ∙ ap (places 0) split ∙ first_place around last) in
-        let whole = ap laid_texts split ∙ texts-put around last in
+        (cc (first_place around last)) in
+        let whole : laid_texts s.outer ≡ laid_texts around ++ texts last =
+        cc (texts-put around last) in
         let parts = all_fit-but_last f t
         (ap all_fit (sym is) ∙ first_of (all_fit s.outer) (fits s.inner) h) in
         record {
@@ -408,13 +375,8 @@ leaves_level es bs os ps n s (e, b, p, h) some o = go s.outer refl some
           is = split;
           place = ends.1;
           places = ends.0;
-          entries = e ∙ ap (λ x. laid 0 x ++ entries (length (laid_texts s.outer)) s.inner) split
-              ∙ ap (λ x. x ++ entries (length (laid_texts s.outer)) s.inner)
-              (laid_first around last)
-              ∙ ap (λ x. ((laid 0 around ++ entries (length (laid_texts around)) last)
-              ++ unclosed (length (laid_texts around ++ texts last)) ∷ [])
-              ++ entries (length x) s.inner) whole;
-          texts = b ∙ ap (λ x. x ++ texts s.inner) whole;
+          entries = cc (laid_first around last);
+          texts = cc;
           fit = (parts.0, parts.1, second_of (all_fit s.outer) (fits s.inner) h);
         }
 
@@ -438,7 +400,7 @@ places_length n (f ∷ s) = ap suc (places_length (n + weight f + 1) s)
 
 at_seam : (xs ys : List Entry) (y d : Entry) (n : ℕ) → n ≡ length xs
     → slice_index_or (xs ++ y ∷ ys) n d ≡ y
-at_seam xs ys y d n e = ap (λ k. slice_index_or (xs ++ y ∷ ys) k d) e ∙ seam xs
+at_seam xs ys y d n e = rw e (seam xs)
   where
     seam : (ws : List Entry) → slice_index_or (ws ++ y ∷ ys) (length ws) d ≡ y
     seam [] = refl
@@ -451,9 +413,7 @@ pub begins_at : (es : List Entry) (bs ps : List ℕ) (n : ℕ) (s : Levels) (z :
 begins_at es bs ps n s z h =
     let x = laid 0 h.outer ++ entries (length (laid_texts h.outer)) h.before in
     let m = length (laid_texts h.outer ++ texts h.before) in
-    ap (λ w. (slice_index_or w n z).text_start) (h.entries
-    ∙ append_assoc x (unclosed m ∷ []) (entries m s.inner))
-    ∙ ap (λ w. w.text_start) (at_seam x (entries m s.inner) (unclosed m) z n h.place)
+    rw (h.entries, append_assoc, at_seam x (entries m s.inner) (unclosed m) z n h.place)
 
 module _ (es fs : List Entry) (bs ps : List ℕ) (n k begin to : ℕ) (s : Levels) (d : Delimiter)
     (p o c : Span) (first last default : Entry) (h : Left es bs ps n s)
@@ -498,6 +458,6 @@ module _ (es fs : List Entry) (bs ps : List ℕ) (n k begin to : ℕ) (s : Level
 pub one_level : (es : List Entry) (bs ps : List ℕ) (s : Levels) → IsLaid es bs ps s
     → s.outer ≡ [] → (es ≡ entries 0 s.inner) × (bs ≡ texts s.inner)
 one_level es bs ps s (e, b, p, h) o = (
-  e ∙ ap (λ x. laid 0 x ++ entries (length (laid_texts x)) s.inner) o,
-  b ∙ ap (λ x. laid_texts x ++ texts s.inner) o,
+  rw o at e,
+  rw o at b,
 )

@@ -1,12 +1,11 @@
 -- The first visible tree of entries that are left, and what is left after it.
 use Rattle.std.proofs.Common.{◌≡◌, ℕ, suc, ◌+◌, ◌-◌, ◌<◌, true, false, List, []}
-use Rattle.std.proofs.Common.{◌∷◌, ◌++◌, length, get_or, take, drop, refl, ap, sym, ◌∙◌, subst, arith}
+use Rattle.std.proofs.Common.{◌∷◌, ◌++◌, length, drop, refl, arith}
 use Rattle.std.proofs.Common.{length-drop, Some, None}
 use Rattle.std.proofs.Math.Seq.{take-append_seam, drop-append_seam}
 use Rattle.std.proofs.lemmas.List.{drop-drop, get_or-drop}
 use Rattle.std.proofs.lemmas.Option.{get_or_from_slice_get, slice_get-get_or, slice_get_within}
 use Rattle.std.specs.List.{prefix_len, slice_get}
-use Rattle.std.specs.Prelude.{cond}
 use Rattle.tok_lexical.specs.declared.delimiter.Delimiter.{Delimiter}
 use Rattle.tok_lexical.specs.declared.delimiter.Delimiter.TheVariants as delimiter
 use Rattle.tok_leaves.specs.declared.span.Span.{Span}
@@ -26,34 +25,33 @@ pub get_rest : {A : Type 0} (k m i : ℕ) (es : List A) (x : A) → i ≡ k + m
     → slice_get (drop k es) m ≡ Some x → slice_get es i ≡ Some x
 get_rest k m i es x same h =
     let low : m < length (drop k es) = slice_get_within (drop k es) m x h in
-    let is : get_or es i x ≡ x =
-    ap (λ j. get_or es j x) same ∙ sym (get_or-drop k es m x)
-    ∙ get_or_from_slice_get (drop k es) m x x h in
-    slice_get-get_or es i x (omega (arith, low, length-drop k es, same)) ∙ ap (λ y. Some y) is
+    let is = get_or_from_slice_get (drop k es) m x x h in
+    cc (
+      get_or-drop k es m x,
+      slice_get-get_or es i x (omega (arith, low, length-drop k es, same)),
+    )
 
 module _ (n : ℕ) (es xs more : List Entry) (cut : drop n es ≡ xs ++ more) where
   -- what is after a part of a list
   pub rest_after : (m : ℕ) → m ≡ n + length xs → drop m es ≡ more
   rest_after m reach =
-      ap (λ i. drop i es) reach ∙ sym (drop-drop (length xs) n es)
-      ∙ ap (λ l. drop (length xs) l) cut ∙ drop-append_seam xs more
+      cc (drop-drop (length xs) n es, drop-append_seam xs more)
 
   pub between_is : (last : ℕ) → last + 1 ≡ n + length xs
       → between (step_over es n last) es ≡ xs
   between_is last reach =
       let long : last + 1 - n ≡ length xs = omega (arith, reach) in
-      ap (λ i. take i (drop n es)) long ∙ ap (λ l. take (length xs) l) cut
-      ∙ take-append_seam xs more
+      rw (long, cut) (take-append_seam xs more)
 
 -- an edge of an invisible group comes before what comes first
 more_hidden : (e : Entry) (es : List Entry) → is_invisible_edge e ≡ true
     → front (e ∷ es) ≡ suc (front es)
 more_hidden e es hides =
-    ap (λ b. cond b (1 + prefix_len is_invisible_edge es) 0) hides ∙ omega arith
+    rw hides (omega arith)
 
 none_hidden : (e : Entry) (es : List Entry) → is_invisible_edge e ≡ false → front (e ∷ es) ≡ 0
 none_hidden e es no_edge =
-    ap (λ b. cond b (1 + prefix_len is_invisible_edge es) 0) no_edge
+    rw no_edge
 
 leaf_seen : (at : ℕ) (l : Leaf) → is_invisible_edge (leaf_entry at l) ≡ false
 leaf_seen at (ident text span) = refl
@@ -95,12 +93,12 @@ pub data Front : ℕ → List Entry → Forest → Type 0 where
 further : {at : ℕ} {es : List Entry} {f : Forest} (e : Entry) → is_invisible_edge e ≡ true
     → Front at es f → Front at (e ∷ es) f
 further e hides (no_front at es h) =
-    no_front at (e ∷ es) (ap (λ n. slice_get (e ∷ es) n) (more_hidden e es hides) ∙ h)
+    no_front at (e ∷ es) (rw (more_hidden e es hides) h)
 further e hides (leaf_front at es l more f cut h) =
-    leaf_front at (e ∷ es) l more f (ap (λ n. drop n (e ∷ es)) (more_hidden e es hides) ∙ cut) h
+    leaf_front at (e ∷ es) l more f (rw (more_hidden e es hides) cut) h
 further e hides (group_front at es d inside span more f v cut h) =
     group_front at (e ∷ es) d inside span more f v
-    (ap (λ n. drop n (e ∷ es)) (more_hidden e es hides) ∙ cut) h
+    (rw (more_hidden e es hides) cut) h
 
 pub front_of : {at : ℕ} {es : List Entry} {f : Forest} → Shows at es f → Front at es f
 front_of (at_end at) = no_front at [] refl
@@ -110,13 +108,10 @@ front_of (past_closing at distance span es f h) =
     further (edge 4 delimiter.None span at distance) refl (front_of h)
 front_of (with_leaf at l es f h) =
     leaf_front at (leaf_entry at l ∷ es) l es f
-    (ap (λ n. drop n (leaf_entry at l ∷ es)) (none_hidden (leaf_entry at l) es (leaf_seen at l))) h
+    (rw (none_hidden (leaf_entry at l) es (leaf_seen at l))) h
 front_of (with_group at d inside span es f v h) =
     group_front at (tree_entries at (group d inside span) ++ es) d inside span es f v
-    (ap (λ n. drop n (tree_entries at (group d inside span) ++ es))
-    (none_hidden (edge 3 d (opening_span span) at (weight inside + 1))
-    ((entries at inside
-    ++ edge 4 d (closing_span span) (at + length (texts inside)) (weight inside + 1) ∷ []) ++ es)
+    (rw (none_hidden (edge 3 d (opening_span span) at (weight inside + 1)) _
     (group_seen d (opening_span span) at (weight inside + 1) v))) h
 
 -- without the closings that come first
@@ -126,8 +121,7 @@ settled es = drop (prefix_len is_invisible_closing es) es
 stays : (at : ℕ) (e : Entry) (es : List Entry) (f : Forest) → is_invisible_closing e ≡ false
     → Shows at (e ∷ es) f → Shows at (settled (e ∷ es)) f
 stays at e es f other h =
-    subst (λ n. Shows at (drop n (e ∷ es)) f)
-    (sym (ap (λ b. cond b (1 + prefix_len is_invisible_closing es) 0) other)) h
+    rw other h
 
 -- the closings that come first show nothing
 pub settle : {at : ℕ} {es : List Entry} {f : Forest} → Shows at es f → Shows at (settled es) f
@@ -138,8 +132,7 @@ settle (past_opening at distance span es f h) =
 settle (past_closing at distance span es f h) =
     let n : 1 + prefix_len is_invisible_closing es ≡ suc (prefix_len is_invisible_closing es) =
     omega arith in
-    subst (λ n. Shows at (drop n (edge 4 delimiter.None span at distance ∷ es)) f) (sym n)
-    (settle h)
+    rw n (settle h)
 settle (with_leaf at l es f h) =
     stays at (leaf_entry at l) es (tree (leaf l) f) (leaf_opens at l) (with_leaf at l es f h)
 settle (with_group at d inside span es f v h) =
@@ -154,5 +147,4 @@ pub left_after : (at n last : ℕ) (es more : List Entry) (f : Forest)
     → Shows at (drop (step_over es n last).next es) f
 left_after at n last es more f cut h =
     let k = prefix_len is_invisible_closing (drop (last + 1) es) in
-    subst (λ l. Shows at l f) (drop-drop k (last + 1) es)
-    (subst (λ l. Shows at (settled l) f) (sym cut) (settle h))
+    rw (← drop-drop k (last + 1) es, cut) (settle h)

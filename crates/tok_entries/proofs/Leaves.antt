@@ -1,5 +1,5 @@
 -- The fields of an entry fit a leaf, and no leaf has a text that was rejected.
-use Rattle.std.proofs.Common.{◌≡◌, ℕ, ◌+◌, List, ◌++◌, length, ap, sym, ◌∙◌, subst, arith}
+use Rattle.std.proofs.Common.{◌≡◌, ℕ, ◌+◌, List, ◌++◌, length, ap, arith}
 use Rattle.std.specs.Prelude.{true, encode_utf8}
 use Rattle.std.specs.Str.{IsUtf8}
 use Rattle.tok_lexical.specs.Characters.{is_punct_or_apostrophe}
@@ -7,10 +7,10 @@ use Rattle.tok_leaves.specs.Leaves.{Leaf, ident, punct, literal, leaf_span, leaf
 use Rattle.tok_leaves.specs.declared.punct.Spacing.{Spacing}
 use Rattle.tok_leaves.specs.declared.span.Span.{Span}
 use Rattle.tok_entries.specs.declared.entry.Entry.{Entry}
-use Rattle.tok_entries.specs.Entries.{leaf_as, leaf_entry, leaf_kind, spacing_number}
+use Rattle.tok_entries.specs.Entries.{leaf_entry, leaf_kind}
 use Rattle.tok_entries.specs.Blames.{FitsLeaf, HasNoLeaf}
 use Rattle.tok_entries.specs.Private.Parts.{AreLeafParts}
-use Rattle.tok_entries.specs.Texts.{IsInSource, IsLiteralText, IsWord}
+use Rattle.tok_entries.specs.Texts.{IsLiteralText, IsWord}
 use Rattle.tok_entries.proofs.Once.{fronts}
 
 -- an entry with these parts, and a leaf that has it
@@ -22,35 +22,26 @@ module _ (at : ℕ) (e : Entry) (bs text after : List ℕ) (spacing : Spacing) (
       let p : e.text_end ≡ at + length text = ap (λ x. x.text_end) parts.0 in
       let q : e.text_end ≡ at + length (leaf_text l) = ap (λ x. x.text_end) he in
       let n : length text ≡ length (leaf_text l) = omega (arith, p, q) in
-      fronts text (leaf_text l) after behind n (sym parts.1 ∙ hb)
+      fronts text (leaf_text l) after behind n (cc parts.1)
 
   kind_is : (l : Leaf) → e ≡ leaf_entry at l → e.kind ≡ leaf_kind l
   kind_is l he = ap (λ x. x.kind) he
 
   pub no_ident : e.kind ≡ 0 → (IsWord text → ⊥) → HasNoLeaf at e bs
   no_ident k none (ident t s) behind ((u, w), i) he hb =
-      none (subst IsWord (sym (text_is (ident t s) behind he hb)) w)
-  no_ident k none (punct c p s) behind hl he hb =
-      absurd (omega (arith, k, kind_is (punct c p s) he))
-  no_ident k none (literal t s) behind hl he hb =
-      absurd (omega (arith, k, kind_is (literal t s) he))
+      none (rw (text_is (ident t s) behind he hb) w)
+  no_ident k none l behind hl he hb = absurd (omega (arith, k, kind_is l he))
 
   pub no_literal : e.kind ≡ 2 → (IsLiteralText text → ⊥) → HasNoLeaf at e bs
   no_literal k none (literal t s) behind ((u, w), i) he hb =
-      none (subst IsLiteralText (sym (text_is (literal t s) behind he hb)) w)
-  no_literal k none (punct c p s) behind hl he hb =
-      absurd (omega (arith, k, kind_is (punct c p s) he))
-  no_literal k none (ident t s) behind hl he hb =
-      absurd (omega (arith, k, kind_is (ident t s) he))
+      none (rw (text_is (literal t s) behind he hb) w)
+  no_literal k none l behind hl he hb = absurd (omega (arith, k, kind_is l he))
 
   pub no_punct : e.kind ≡ 1
       → ((c : ℕ) → is_punct_or_apostrophe c ≡ true → text ≡ encode_utf8 c → ⊥) → HasNoLeaf at e bs
   no_punct k none (punct c p s) behind (w, i) he hb =
       none c w (text_is (punct c p s) behind he hb)
-  no_punct k none (ident t s) behind hl he hb =
-      absurd (omega (arith, k, kind_is (ident t s) he))
-  no_punct k none (literal t s) behind hl he hb =
-      absurd (omega (arith, k, kind_is (literal t s) he))
+  no_punct k none l behind hl he hb = absurd (omega (arith, k, kind_is l he))
 
   -- the fields are those of a leaf, whatever the text
   pub fits : (l : Leaf) → e.kind ≡ leaf_kind l → spacing ≡ leaf_spacing l → span ≡ leaf_span l
@@ -59,11 +50,8 @@ module _ (at : ℕ) (e : Entry) (bs text after : List ℕ) (spacing : Spacing) (
     l,
     text,
     after,
-    parts.0 ∙ ap (λ x. leaf_as x (spacing_number spacing) span at (at + length text)) k
-        ∙ ap (λ x. leaf_as (leaf_kind l) (spacing_number x) span at (at + length text)) p
-        ∙ ap (λ x. leaf_as (leaf_kind l) (spacing_number (leaf_spacing l)) x at
-        (at + length text)) s,
+    rw (← k, ← p, ← s) parts.0,
     parts.1,
     u,
-    subst IsInSource s parts.2,
+    rw s at parts.2,
   )

@@ -1,6 +1,6 @@
 -- Entries and texts denote one forest.
 use Rattle.std.proofs.Common.{◌≡◌, ℕ, ◌+◌, ◌-◌, ◌<◌, Bool, true, false, List, [], ◌∷◌, ◌++◌, length}
-use Rattle.std.proofs.Common.{get_or, take, drop, refl, ap, sym, ◌∙◌, arith, append_assoc}
+use Rattle.std.proofs.Common.{get_or, drop, refl, ap, sym, arith, append_assoc}
 use Rattle.std.proofs.Math.Seq.{take-append_seam, drop-append_seam}
 use Rattle.std.proofs.lemmas.Str.{encode_ascii}
 use Rattle.std.specs.Prelude.{cond, nat_lt, encode_utf8}
@@ -31,21 +31,19 @@ tail x y xs ys e = ap (λ l. drop 1 l) e
 pub fronts : {A : Type 0} (xs ys zs ws : List A) → length xs ≡ length ys → xs ++ zs ≡ ys ++ ws
     → xs ≡ ys
 fronts xs ys zs ws h e =
-    sym (take-append_seam xs zs) ∙ ap (λ l. take (length xs) l) e
-    ∙ ap (λ n. take n (ys ++ ws)) h ∙ take-append_seam ys ws
+    cc (take-append_seam xs zs, take-append_seam ys ws)
 
 pub rests : {A : Type 0} (xs ys zs ws : List A) → length xs ≡ length ys → xs ++ zs ≡ ys ++ ws
     → zs ≡ ws
 rests xs ys zs ws h e =
-    sym (drop-append_seam xs zs) ∙ ap (λ l. drop (length xs) l) e
-    ∙ ap (λ n. drop n (ys ++ ws)) h ∙ drop-append_seam ys ws
+    cc (drop-append_seam xs zs, drop-append_seam ys ws)
 
 pub span_once : (s r : Span) → IsInSource s → IsInSource r → first_byte s ≡ first_byte r
     → end_byte s ≡ end_byte r → s ≡ r
 span_once s r (a, b, le, hs) (c, d, ge, hr) e f =
-    let ea : a ≡ c = sym (ap (λ x. first_byte x) hs) ∙ e ∙ ap (λ x. first_byte x) hr in
-    let eb : b ≡ d = sym (ap (λ x. end_byte x) hs) ∙ f ∙ ap (λ x. end_byte x) hr in
-    hs ∙ ap (λ n. source 0 n b) ea ∙ ap (λ n. source 0 c n) eb ∙ sym hr
+    let ea : a ≡ c = rw (hs, hr) at e in
+    let eb : b ≡ d = rw (hs, hr) at f in
+    cc
 
 pub opening_first : (a b : ℕ) → first_byte (opening_span (source 0 a b)) ≡ a
 opening_first a b = elim (nat_lt a b) as
@@ -61,40 +59,24 @@ group_span_once : (s r : Span) → IsInSource s → IsInSource r
     → first_byte (opening_span s) ≡ first_byte (opening_span r)
     → end_byte (closing_span s) ≡ end_byte (closing_span r) → s ≡ r
 group_span_once s r (a, b, le, hs) (c, d, ge, hr) e f =
-    let ea : a ≡ c =
-    sym (opening_first a b) ∙ sym (ap (λ x. first_byte (opening_span x)) hs) ∙ e
-    ∙ ap (λ x. first_byte (opening_span x)) hr ∙ opening_first c d in
-    let eb : b ≡ d =
-    sym (closing_last a b) ∙ sym (ap (λ x. end_byte (closing_span x)) hs) ∙ f
-    ∙ ap (λ x. end_byte (closing_span x)) hr ∙ closing_last c d in
-    hs ∙ ap (λ n. source 0 n b) ea ∙ ap (λ n. source 0 c n) eb ∙ sym hr
+    let ea : a ≡ c = cc (opening_first a b, opening_first c d) in
+    let eb : b ≡ d = cc (closing_last a b, closing_last c d) in
+    cc
 
 pub delimiter_once : (d e : Delimiter) → delimiter_number d ≡ delimiter_number e → d ≡ e
 delimiter_once delimiters.Parenthesis delimiters.Parenthesis h = refl
-delimiter_once delimiters.Parenthesis delimiters.Brace h = absurd (omega (arith, h))
-delimiter_once delimiters.Parenthesis delimiters.Bracket h = absurd (omega (arith, h))
-delimiter_once delimiters.Parenthesis delimiters.None h = absurd (omega (arith, h))
-delimiter_once delimiters.Brace delimiters.Parenthesis h = absurd (omega (arith, h))
 delimiter_once delimiters.Brace delimiters.Brace h = refl
-delimiter_once delimiters.Brace delimiters.Bracket h = absurd (omega (arith, h))
-delimiter_once delimiters.Brace delimiters.None h = absurd (omega (arith, h))
-delimiter_once delimiters.Bracket delimiters.Parenthesis h = absurd (omega (arith, h))
-delimiter_once delimiters.Bracket delimiters.Brace h = absurd (omega (arith, h))
 delimiter_once delimiters.Bracket delimiters.Bracket h = refl
-delimiter_once delimiters.Bracket delimiters.None h = absurd (omega (arith, h))
-delimiter_once delimiters.None delimiters.Parenthesis h = absurd (omega (arith, h))
-delimiter_once delimiters.None delimiters.Brace h = absurd (omega (arith, h))
-delimiter_once delimiters.None delimiters.Bracket h = absurd (omega (arith, h))
 delimiter_once delimiters.None delimiters.None h = refl
+delimiter_once d e h = absurd (omega (arith, h))
 
 pub punct_is_small : (c : ℕ) → is_punct_or_apostrophe c ≡ true → c < 128
 punct_is_small c h = grind (arith, h)
 
 pub spacing_once : (p q : Spacing) → spacing_number p ≡ spacing_number q → p ≡ q
 spacing_once Alone Alone h = refl
-spacing_once Alone Joint h = absurd (omega (arith, h))
-spacing_once Joint Alone h = absurd (omega (arith, h))
 spacing_once Joint Joint h = refl
+spacing_once p q h = absurd (omega (arith, h))
 
 -- what two leaves share, of which the entries are equal and the texts begin alike
 module _ (at : ℕ) (l m : Leaf) (bs cs : List ℕ) (e : leaf_entry at l ≡ leaf_entry at m)
@@ -124,31 +106,25 @@ pub leaf_once : (at : ℕ) (l m : Leaf) (bs cs : List ℕ) → leaf_entry at l �
     → leaf_text l ++ bs ≡ leaf_text m ++ cs → IsLeafText l → IsLeafText m
     → IsInSource (leaf_span l) → IsInSource (leaf_span m) → l ≡ m
 leaf_once at (ident t s) (ident u r) bs cs e h a b p q =
-    ap (λ x. ident x s) (same_text at (ident t s) (ident u r) bs cs e h)
-    ∙ ap (λ x. ident u x) (same_span at (ident t s) (ident u r) bs cs e h p q)
+    cc (
+      same_text at (ident t s) (ident u r) bs cs e h,
+      same_span at (ident t s) (ident u r) bs cs e h p q,
+    )
 leaf_once at (literal t s) (literal u r) bs cs e h a b p q =
-    ap (λ x. literal x s) (same_text at (literal t s) (literal u r) bs cs e h)
-    ∙ ap (λ x. literal u x) (same_span at (literal t s) (literal u r) bs cs e h p q)
+    cc (
+      same_text at (literal t s) (literal u r) bs cs e h,
+      same_span at (literal t s) (literal u r) bs cs e h p q,
+    )
 leaf_once at (punct c s v) (punct d t w) bs cs e h a b p q =
     let k : encode_utf8 c ≡ encode_utf8 d =
     same_text at (punct c s v) (punct d t w) bs cs e h in
     let n : c ∷ [] ≡ d ∷ [] =
-    sym (encode_ascii c (punct_is_small c a)) ∙ k ∙ encode_ascii d (punct_is_small d b) in
-    ap (λ x. punct x s v) (head c d [] [] n)
-    ∙ ap (λ x. punct d x v) (same_spacing at (punct c s v) (punct d t w) bs cs e h)
-    ∙ ap (λ x. punct d t x) (same_span at (punct c s v) (punct d t w) bs cs e h p q)
-leaf_once at (ident t s) (punct d u w) bs cs e h a b p q =
-    absurd (omega (arith, same_kind at (ident t s) (punct d u w) bs cs e h))
-leaf_once at (ident t s) (literal u w) bs cs e h a b p q =
-    absurd (omega (arith, same_kind at (ident t s) (literal u w) bs cs e h))
-leaf_once at (punct c s v) (ident u w) bs cs e h a b p q =
-    absurd (omega (arith, same_kind at (punct c s v) (ident u w) bs cs e h))
-leaf_once at (punct c s v) (literal u w) bs cs e h a b p q =
-    absurd (omega (arith, same_kind at (punct c s v) (literal u w) bs cs e h))
-leaf_once at (literal t s) (ident u w) bs cs e h a b p q =
-    absurd (omega (arith, same_kind at (literal t s) (ident u w) bs cs e h))
-leaf_once at (literal t s) (punct d u w) bs cs e h a b p q =
-    absurd (omega (arith, same_kind at (literal t s) (punct d u w) bs cs e h))
+    cc (encode_ascii c (punct_is_small c a), encode_ascii d (punct_is_small d b)) in
+    cc (
+      same_spacing at (punct c s v) (punct d t w) bs cs e h,
+      same_span at (punct c s v) (punct d t w) bs cs e h p q,
+    )
+leaf_once at l m bs cs e h a b p q = absurd (omega (arith, same_kind at l m bs cs e h))
 
 pub leaf_is_small : (l : Leaf) → leaf_kind l < 3
 leaf_is_small (ident t s) = omega arith
@@ -174,7 +150,7 @@ mutual
       → (t ≡ u) × (xs ≡ ys) × (bs ≡ cs)
   tree_once at (leaf l) (leaf m) xs ys bs cs e h (a, p) (b, q) =
       let k : leaf_entry at l ≡ leaf_entry at m = head _ _ _ _ e in (
-        ap (λ x. leaf x) (leaf_once at l m bs cs k h a b p q),
+        cc (leaf_once at l m bs cs k h a b p q),
         tail _ _ _ _ e,
         same_rest at l m bs cs k h,
       )
@@ -193,8 +169,7 @@ mutual
       let m : length (entries at f) ≡ length (entries at g) =
       omega (arith, n, length-entries at f, length-entries at g) in
       let i : entries at f ++ z ∷ xs ≡ entries at g ++ w ∷ ys =
-      sym (append_assoc (entries at f) (z ∷ []) xs) ∙ tail _ _ _ _ e
-      ∙ append_assoc (entries at g) (w ∷ []) ys in
+      cc (append_assoc (entries at f) (z ∷ []) xs, append_assoc (entries at g) (w ∷ []) ys) in
       let ins : entries at f ≡ entries at g =
       fronts (entries at f) (entries at g) (z ∷ xs) (w ∷ ys) m i in
       let outs : z ∷ xs ≡ w ∷ ys =
@@ -204,7 +179,7 @@ mutual
       let ds : d ≡ c = delimiter_once d c (ap (λ x. x.delimiter) o) in
       let sr : s ≡ r =
       group_span_once s r p q (ap (λ x. x.start) o) (ap (λ x. x.end) zw) in (
-        ap (λ x. group x f s) ds ∙ ap (λ x. group c x s) fg ∙ ap (λ x. group c g x) sr,
+        cc,
         tail z w xs ys outs,
         rest,
       )
@@ -219,18 +194,15 @@ mutual
       absurd (none at t f e)
   forest_once at (tree t f) (tree u g) bs cs e h (a, c) (b, d) =
       let k : tree_texts t ++ (texts f ++ bs) ≡ tree_texts u ++ (texts g ++ cs) =
-      sym (append_assoc (tree_texts t) (texts f) bs) ∙ h
-      ∙ append_assoc (tree_texts u) (texts g) cs in
+      cc (append_assoc (tree_texts t) (texts f) bs, append_assoc (tree_texts u) (texts g) cs) in
       let (tu, xs, ts) = tree_once at t u (entries (at + length (tree_texts t)) f)
       (entries (at + length (tree_texts u)) g) (texts f ++ bs) (texts g ++ cs) e k a b in
-      let n : at + length (tree_texts t) ≡ at + length (tree_texts u) =
-      ap (λ x. at + length (tree_texts x)) tu in
       let ys : entries (at + length (tree_texts u)) f ≡ entries (at + length (tree_texts u)) g =
-      ap (λ x. entries x f) (sym n) ∙ xs in
+      cc in
       let (fg, rest) = forest_once (at + length (tree_texts u)) f g bs cs ys ts c d in
-      (ap (λ x. tree x f) tu ∙ ap (λ x. tree u x) fg, rest)
+      (cc, rest)
 
 pub denoted_once : (es : List Entry) (bs : List ℕ) (f g : Forest) → Denotes es bs f
     → Denotes es bs g → f ≡ g
 denoted_once es bs f g (ef, tf, af, lf) (eg, tg, ag, lg) =
-    (forest_once 0 f g [] [] (sym ef ∙ eg) (ap (λ x. x ++ []) (sym tf ∙ tg)) af ag).0
+    (forest_once 0 f g [] [] (cc) (cc) af ag).0

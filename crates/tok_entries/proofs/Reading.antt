@@ -1,13 +1,13 @@
 -- Each read of entries finds what comes first among their visible trees.
 use Rattle.std.proofs.Common.{◌≡◌, ℕ, ◌+◌, ◌-◌, ◌<◌, ◌⊎◌, inl, inr, Bool, true, false}
-use Rattle.std.proofs.Common.{List, [], ◌∷◌, ◌++◌, length, get_or, drop, refl, ap, ap₂, sym, ◌∙◌}
-use Rattle.std.proofs.Common.{subst, arith, append_assoc, length-append, length-drop, Some, None}
+use Rattle.std.proofs.Common.{List, [], ◌∷◌, ◌++◌, length, get_or, drop, refl, ap, sym, ◌∙◌}
+use Rattle.std.proofs.Common.{arith, append_assoc, length-append, length-drop, Some, None}
 use Rattle.std.proofs.Math.Seq.{drop-append_seam}
 use Rattle.std.proofs.lemmas.Bool.{false≢true, eqb-true, lt-ltb}
 use Rattle.std.proofs.lemmas.List.{drop-drop, get_or-drop}
 use Rattle.std.proofs.lemmas.Str.{encode_ascii, inside_one, len_utf8_bounds, length-encode}
 use Rattle.std.specs.List.{slice_get}
-use Rattle.std.specs.Prelude.{◌==◌, ◌&&◌, cond, encode_utf8, MatchOption, nat_lt, not, Option}
+use Rattle.std.specs.Prelude.{◌==◌, ◌&&◌, cond, encode_utf8, MatchOption, not, Option}
 use Rattle.std.specs.Prelude.{option_map}
 use Rattle.tok_lexical.specs.declared.delimiter.Delimiter.{Delimiter}
 use Rattle.tok_lexical.specs.declared.delimiter.Delimiter.TheVariants as delimiter
@@ -110,42 +110,21 @@ module _ (test : Entry → Bool)
   leaf_read : {at : ℕ} {es : List Entry} {f : Forest} → Front at es f
       → LeafRead test at es f (read_leaf test es)
   leaf_read (no_front at es h) =
-      subst (LeafRead test at es no_trees)
-      (sym (ap (λ (o : Option Entry). elim o [
-        | Some e ↦ cond (test e) (Some (step_over es (front es) (front es))) None
-        | None ↦ None
-      ]) h))
-      (no_leaf at es no_trees (λ l g e t. no_tree_first (leaf l) g e))
-  leaf_read (leaf_front at es l more f cut h) = go (test (leaf_entry at l)) refl where
-    is : read_leaf test es
-        ≡ cond (test (leaf_entry at l)) (Some (step_over es (front es) (front es))) None
-    is = ap (λ (o : Option Entry). elim o [
-      | Some e ↦ cond (test e) (Some (step_over es (front es) (front es))) None
-      | None ↦ None
-    ]) (front_entry es more (leaf_entry at l) cut)
-
-    go : (b : Bool) → test (leaf_entry at l) ≡ b
-        → LeafRead test at es (tree (leaf l) f) (read_leaf test es)
-    go true e =
-        subst (LeafRead test at es (tree (leaf l) f))
-        (sym (is ∙ ap (λ b. cond b (Some (step_over es (front es) (front es))) None) e))
-        (a_leaf at es l more f e cut h)
-    go false e =
-        subst (LeafRead test at es (tree (leaf l) f))
-        (sym (is ∙ ap (λ b. cond b (Some (step_over es (front es) (front es))) None) e))
-        (no_leaf at es (tree (leaf l) f) (λ m g same t. false≢true
-        (sym e ∙ ap (λ x. test (leaf_entry at x))
-        (same_leaf l m (same_first (leaf l) (leaf m) f g same)) ∙ t)))
+      rw (h, read_leaf) (no_leaf at es no_trees (λ l g e t. no_tree_first (leaf l) g e))
+  leaf_read (leaf_front at es l more f cut h) =
+      rw (front_entry es more (leaf_entry at l) cut, read_leaf)
+      (go (test (leaf_entry at l)) refl)
+    where
+      go : (b : Bool) → test (leaf_entry at l) ≡ b → LeafRead test at es (tree (leaf l) f)
+          (cond b (Some (step_over es (front es) (front es))) None)
+      go true e = a_leaf at es l more f e cut h
+      go false e =
+          no_leaf at es (tree (leaf l) f) (λ m g same t.
+          let one : l ≡ m = cc in absurd (cc))
   leaf_read (group_front at es d inside span more f v cut h) =
-      subst (LeafRead test at es (tree (group d (erase inside) span) f))
-      (sym (ap (λ (o : Option Entry). elim o [
-        | Some e ↦ cond (test e) (Some (step_over es (front es) (front es))) None
-        | None ↦ None
-      ]) (front_entry es _ (edge 3 d (opening_span span) at (weight inside + 1)) cut)
-      ∙ ap (λ b. cond b (Some (step_over es (front es) (front es))) None)
-      (no_edge d (opening_span span) at (weight inside + 1))))
-      (no_leaf at es (tree (group d (erase inside) span) f)
-      (λ l g e t. group_is_no_leaf d (erase inside) span l (same_first _ (leaf l) f g e)))
+      let e = edge 3 d (opening_span span) at (weight inside + 1) in
+      rw (front_entry es _ e cut, no_edge d (opening_span span) at (weight inside + 1), read_leaf)
+      (no_leaf at es (tree (group d (erase inside) span) f) (λ l g e t. absurd (cc)))
 
   -- a test of trees and one of entries that are alike
   module _ (wanted : Tree → Bool) (bs : List ℕ)
@@ -159,8 +138,7 @@ module _ (test : Entry → Bool)
         by_kind : (t : Tree) (rest : Forest) → f ≡ tree t rest → wanted t ≡ true → ⊥
         by_kind (leaf l) rest e fits =
             none l rest e
-            (alike at l (text_first (leaf l) rest (drop at bs)
-            (subst (λ x. BeginsWith (drop at bs) (texts x)) e begin)) ∙ fits)
+            (alike at l (text_first (leaf l) rest (drop at bs) (rw e at begin)) ∙ fits)
         by_kind (group d g span) rest e fits = false≢true (sym (no_group d g span) ∙ fits)
       found begin (a_leaf at es l more g fits cut h) = (
         leaf l,
@@ -274,14 +252,10 @@ module _ (bs : List ℕ) (at : ℕ) (es more : List Entry) (c : ℕ) (quote : Sp
             ∙ front_entry l later (leaf_entry k (ident name span)) cut_name)
             ∙ ap (λ n. Some (leaf_entry n (ident name span))) (at_is ∙ ap (λ n. at + n) one),
         (
-          subst (λ n. Shows n (drop ((front es + 1) + next) es) h) here
-              (subst (λ x. Shows (k + length name) x h) over shows),
-          subst (λ n. BeginsWith (drop n bs) (texts h)) here
-              (texts_left k (leaf (ident name span)) h bs
-              (subst (λ n. BeginsWith (drop n bs) (texts (tree (leaf (ident name span)) h)))
-              (sym at_is)
-              (texts_left at (leaf (punct c Joint quote)) (tree (leaf (ident name span)) h) bs
-              begin))),
+          rw (here, over) at shows,
+          rw (← here) (texts_left k (leaf (ident name span)) h bs
+              (rw at_is (texts_left at (leaf (punct c Joint quote))
+              (tree (leaf (ident name span)) h) bs begin))),
         ),
       )
 
@@ -299,7 +273,7 @@ module _ (bs : List ℕ) where
   quoted begin (no_leaf at es f none) = λ quote name span rest e.
       let begun : BeginsWith (drop at bs) (encode_utf8 39) =
       text_first (leaf (punct apostrophe Joint quote)) (tree (leaf (ident name span)) rest)
-      (drop at bs) (subst (λ x. BeginsWith (drop at bs) (texts x)) e begin) in
+      (drop at bs) (rw e at begin) in
       none (punct apostrophe Joint quote) (tree (leaf (ident name span)) rest) e
       (quote_is at bs begun.0 39 begun.1)
   quoted begin (a_leaf at es (ident text span) more g fits cut h) = absurd (false≢true fits)
@@ -309,10 +283,7 @@ module _ (bs : List ℕ) where
       let begun : BeginsWith (drop at bs) (encode_utf8 c) =
       text_first (leaf (punct c Joint span)) g (drop at bs) begin in
       let same : c ≡ 39 = eqb-true c 39 (sym (quote_is at bs begun.0 c begun.1) ∙ fits) in
-      subst (λ l. MatchOption (option_map (after (front es) (front es + 1)) (read_ident l))
-      (HasNoLifetime (tree (leaf (punct c Joint span)) g))
-      (FindsLifetime at bs es (tree (leaf (punct c Joint span)) g)))
-      (sym (rest bs at es more c span same cut))
+      rw (rest bs at es more c span same cut)
       (named bs at es more c span same cut refl refl begin
       (leaf_read (λ e. e.kind == 0) (λ d s k n. refl) (front_of h)))
 
@@ -338,9 +309,10 @@ module _ (at n : ℕ) (es : List Entry) (d : Delimiter) (inside : Forest) (span 
         length-append (tree_entries at (group d inside span)) more,
         size,
       ) in
-      ap₂ (λ a b. cond (a && b) (Some (step_over es n (n + (weight inside + 1)))) None)
-      (lt-ltb 0 (weight inside + 1) (omega arith))
-      (lt-ltb (weight inside + 1) (length es - n) (omega (arith, long)))
+      rw (
+        lt-ltb 0 (weight inside + 1) (omega arith),
+        lt-ltb (weight inside + 1) (length es - n) (omega (arith, long)),
+      )
 
   pub group_between : between (step_over es n (n + (weight inside + 1))) es
       ≡ tree_entries at (group d inside span)
@@ -369,9 +341,7 @@ module _ (at n : ℕ) (es : List Entry) (d : Delimiter) (inside : Forest) (span 
     fits,
     (group d inside span, erase_group d inside span no_trees v, group_between),
     (
-      subst (λ l. Shows (at + length l)
-          (drop (step_over es n (n + (weight inside + 1))).next es) f)
-          (sym (texts_erased inside)) (group_left f h),
+      rw (texts_erased inside) (group_left f h),
       texts_left at (group d (erase inside) span) f bs begin,
     ),
   )
@@ -388,79 +358,43 @@ read_visible delimiter.Parenthesis es v = refl
 read_visible delimiter.Brace es v = refl
 read_visible delimiter.Bracket es v = refl
 
--- a group of a delimiter, by the entry at the front
-abbrev group_from : Delimiter → List Entry → Option Entry → Option Step
-group_from d es o =
-    elim o [
-      | Some e ↦
-          cond (e.kind == 3 && e.delimiter == delimiter_number d) (whole es (front es) e.distance)
-          None
-      | None ↦ None
-    ]
-
 grouped : {at : ℕ} {es : List Entry} {f : Forest} (d : Delimiter) (bs : List ℕ)
     → BeginsWith (drop at bs) (texts f) → Front at es f
     → Reads (is_group_of d) at bs es f (read_group_at d es (front es))
 grouped d bs begin (no_front at es h) =
-    subst (Reads (is_group_of d) at bs es no_trees) (sym (ap (group_from d es) h))
-    (λ t rest e fits. no_tree_first t rest e)
+    rw (h, read_group_at) (λ t rest e fits. no_tree_first t rest e)
 grouped d bs begin (leaf_front at es l more f cut h) =
-    subst (Reads (is_group_of d) at bs es (tree (leaf l) f))
-    (sym (ap (group_from d es) (front_entry es more (leaf_entry at l) cut)
-    ∙ ap (λ b. cond (b && 0 == delimiter_number d) (whole es (front es) 0) None)
-    (leaf_is_no_opening l)))
+    rw (front_entry es more (leaf_entry at l) cut, leaf_is_no_opening l, read_group_at)
     (λ t rest e fits. false≢true
     (ap (is_group_of d) (same_first (leaf l) t f rest e) ∙ fits))
 grouped d bs begin (group_front at es g inside span more f v cut h) =
     go (delimiter_number g == delimiter_number d) refl
   where
-    e : Entry
-    e = edge 3 g (opening_span span) at (weight inside + 1)
-
-    is : read_group_at d es (front es)
-        ≡ cond (delimiter_number g == delimiter_number d)
-        (whole es (front es) (weight inside + 1)) None
-    is =
-        ap (group_from d es)
-        (front_entry es _ (edge 3 g (opening_span span) at (weight inside + 1)) cut)
+    first : slice_get es (front es) ≡ Some (edge 3 g (opening_span span) at (weight inside + 1))
+    first = front_entry es _ (edge 3 g (opening_span span) at (weight inside + 1)) cut
 
     go : (b : Bool) → (delimiter_number g == delimiter_number d) ≡ b
         → Reads (is_group_of d) at bs es (tree (group g (erase inside) span) f)
         (read_group_at d es (front es))
     go true fits =
-        subst (Reads (is_group_of d) at bs es (tree (group g (erase inside) span) f))
-        (sym (is ∙ ap (λ b. cond b (whole es (front es) (weight inside + 1)) None) fits
-        ∙ whole_is at (front es) es g inside span more cut))
+        rw (first, fits, whole_is at (front es) es g inside span more cut, read_group_at)
         (group_found at (front es) es g inside span more cut (is_group_of d) bs f v fits begin h)
     go false other =
-        subst (Reads (is_group_of d) at bs es (tree (group g (erase inside) span) f))
-        (sym (is ∙ ap (λ b. cond b (whole es (front es) (weight inside + 1)) None) other))
-        (λ t rest e fits. false≢true
+        rw (first, other, read_group_at) (λ t rest e fits. false≢true
         (sym other ∙ ap (is_group_of d) (same_first _ t f rest e) ∙ fits))
-
--- the front tree, by the entry at the front
-abbrev tree_from : List Entry → Option Entry → Option Step
-tree_from es o =
-    elim o [
-      | Some e ↦
-          cond (nat_lt e.kind 3) (Some (step_over es (front es) (front es)))
-          (cond (e.kind == 3) (whole es (front es) e.distance) None)
-      | None ↦ None
-    ]
 
 any_read : {at : ℕ} {es : List Entry} {f : Forest} (bs : List ℕ)
     → BeginsWith (drop at bs) (texts f) → Front at es f
     → MatchOption (read_tree es) (f ≡ no_trees) (FindsTree any_tree at bs es f)
 any_read bs begin (no_front at es h) =
-    subst (λ r. MatchOption r (no_trees ≡ no_trees) (FindsTree any_tree at bs es no_trees))
-    (sym (ap (tree_from es) h)) refl
+    rw (h, read_tree, MatchOption) refl
 any_read bs begin (leaf_front at es l more f cut h) =
-    subst (λ r. MatchOption r (tree (leaf l) f ≡ no_trees)
-    (FindsTree any_tree at bs es (tree (leaf l) f)))
-    (sym (ap (tree_from es) (front_entry es more (leaf_entry at l) cut)
-    ∙ ap (λ b. cond b (Some (step_over es (front es) (front es)))
-    (cond (leaf_kind l == 3) (whole es (front es) 0) None))
-    (lt-ltb (leaf_kind l) 3 (leaf_is_small l)))) (
+    rw (
+      front_entry es more (leaf_entry at l) cut,
+      lt-ltb (leaf_kind l) 3 (leaf_is_small l),
+      read_tree,
+      MatchOption,
+    ) (
       leaf l,
       f,
       refl,
@@ -477,11 +411,12 @@ any_read bs begin (leaf_front at es l more f cut h) =
       ),
     )
 any_read bs begin (group_front at es d inside span more f v cut h) =
-    subst (λ r. MatchOption r (tree (group d (erase inside) span) f ≡ no_trees)
-    (FindsTree any_tree at bs es (tree (group d (erase inside) span) f)))
-    (sym (ap (tree_from es)
-    (front_entry es _ (edge 3 d (opening_span span) at (weight inside + 1)) cut)
-    ∙ whole_is at (front es) es d inside span more cut))
+    rw (
+      front_entry es _ (edge 3 d (opening_span span) at (weight inside + 1)) cut,
+      whole_is at (front es) es d inside span more cut,
+      read_tree,
+      MatchOption,
+    )
     (group_found at (front es) es d inside span more cut any_tree bs f v refl begin h)
 
 skipped : (at : ℕ) (bs : List ℕ) (es : List Entry) (f : Forest) (r : Option Step)
@@ -510,8 +445,7 @@ reads_first at bs es f left = record {
       reads_leaf (λ e. e.kind == 2) (λ d s k n. refl) is_literal bs
       (λ k l begin. literal_alike k l) (λ d g s. refl) at es f left;
   group = λ d v.
-      subst (Reads (is_group_of d) at bs es f) (sym (read_visible d es v))
-      (grouped d bs left.1 (front_of left.0));
+      rw (read_visible d es v) (grouped d bs left.1 (front_of left.0));
   lifetime = reads_lifetime bs at es f left;
   skip =
       skipped at bs es f (read_lifetime bs es) (reads_lifetime bs at es f left)

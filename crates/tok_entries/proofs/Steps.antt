@@ -1,5 +1,5 @@
 -- A tree is taken off the front of entries and texts, and goes to the end of the innermost level.
-use Rattle.std.proofs.Common.{◌≡◌, ℕ, ◌+◌, ◌-◌, ◌<◌, ◌≤◌, List, [], ◌∷◌, ◌++◌, length, refl, ap, sym, ◌∙◌, subst, arith}
+use Rattle.std.proofs.Common.{◌≡◌, ℕ, ◌+◌, ◌-◌, ◌<◌, ◌≤◌, List, [], ◌∷◌, ◌++◌, length, refl, ap, sym, ◌∙◌, arith}
 use Rattle.std.proofs.Common.{append_assoc, length-append}
 use Rattle.std.proofs.lemmas.List.{append-nil}
 use Rattle.std.proofs.Math.Nat.{le-max_left, le-max_right, max-le}
@@ -25,23 +25,23 @@ pub texts_on : (f : Forest) (t : Tree)
     → texts (concat f (tree t no_trees)) ≡ texts f ++ tree_texts t
 texts_on no_trees t = append-nil (tree_texts t)
 texts_on (tree u g) t =
-    ap (λ ys. tree_texts u ++ ys) (texts_on g t)
-    ∙ sym (append_assoc (tree_texts u) (texts g) (tree_texts t))
+    cc (texts_on g t, append_assoc (tree_texts u) (texts g) (tree_texts t))
 
 pub entries_on : (at : ℕ) (f : Forest) (t : Tree)
     → entries at (concat f (tree t no_trees)) ≡ entries at f ++ tree_entries
     (at + length (texts f)) t
 entries_on at no_trees t =
     let e : at + 0 ≡ at = omega arith in
-    append-nil (tree_entries at t) ∙ ap (λ n. tree_entries n t) (sym e)
+    cc (append-nil (tree_entries at t))
 entries_on at (tree u g) t =
     let e : (at + length (tree_texts u)) + length (texts g)
     ≡ at + length (tree_texts u ++ texts g) =
     omega (arith, length-append (tree_texts u) (texts g)) in
-    ap (λ ys. tree_entries at u ++ ys) (entries_on (at + length (tree_texts u)) g t)
-    ∙ sym (append_assoc (tree_entries at u) (entries (at + length (tree_texts u)) g)
-    (tree_entries ((at + length (tree_texts u)) + length (texts g)) t))
-    ∙ ap (λ n. (tree_entries at u ++ entries (at + length (tree_texts u)) g) ++ tree_entries n t) e
+    cc (
+      entries_on (at + length (tree_texts u)) g t,
+      append_assoc (tree_entries at u) (entries (at + length (tree_texts u)) g)
+          (tree_entries ((at + length (tree_texts u)) + length (texts g)) t),
+    )
 
 in_on : (f : Forest) (t : Tree) → IsForestIn f → IsTreeIn t
     → IsForestIn (concat f (tree t no_trees))
@@ -80,18 +80,14 @@ goes_on at levels begin es ls ks bs rs qs old mid new t (f, he, hb, hf, hd, hl) 
     omega (arith, hn, ap length hb, length-append (texts f) rs) in
     let g : Forest = concat f (tree t no_trees) in (
       g,
-      he ∙ ap (λ ys. entries at f ++ ys) ke
-          ∙ sym (append_assoc (entries at f) (tree_entries begin t) ks)
-          ∙ ap (λ n. (entries at f ++ tree_entries n t) ++ ks) e
-          ∙ ap (λ ys. ys ++ ks) (sym (entries_on at f t)),
-      hb ∙ ap (λ ys. texts f ++ ys) kb ∙ sym (append_assoc (texts f) (tree_texts t) qs)
-          ∙ ap (λ ys. ys ++ qs) (sym (texts_on f t)),
+      cc (append_assoc (entries at f) (tree_entries begin t) ks, entries_on at f t),
+      cc (append_assoc (texts f) (tree_texts t) qs, texts_on f t),
       in_on f t hf kt,
       depth_on f t levels hd kd,
-      hw ∙ ap (λ m. add_forest (pruned (tree t no_trees)) m) hl
-          ∙ ap (λ x. record { outer = old.outer; inner = x })
-          (joined_assoc old.inner (pruned f) (pruned (tree t no_trees))
-          ∙ ap (λ x. concat old.inner x) (sym (pruned_parts f (tree t no_trees)))),
+      rw (hw, hl) (cc (
+        joined_assoc old.inner (pruned f) (pruned (tree t no_trees)),
+        pruned_parts f (tree t no_trees),
+      )),
     )
 
 pub starts : (at : ℕ) (t : Tree) (ks : List Entry) → tree_entries at t ++ ks ≡ [] → ⊥
@@ -111,24 +107,15 @@ behind_tree begin levels ls ks rs qs t no_trees (ke, kb, kt, kd) (ge, gb, gi, gd
 behind_tree begin levels ls ks rs qs t (tree u h) (ke, kb, kt, kd) (ge, gb, (gi, hi), gd) =
     let (same, es, bs) = tree_once begin u t (entries (begin + length (tree_texts u)) h) ks
     (texts h)
-    qs (sym ge ∙ ke) (sym gb ∙ kb) gi kt in
-    let n : begin + length (tree_texts u) ≡ begin + length (tree_texts t) =
-    ap (λ x. begin + length (tree_texts x)) same in (
-      h,
-      (
-        sym es ∙ ap (λ m. entries m h) n,
-        sym bs,
-        hi,
-        later_depth u h levels gd,
-      ),
-    )
+    qs (cc) (cc) gi kt in
+    (h, (rw same at (sym es), sym bs, hi, later_depth u h levels gd))
 
 -- a leaf is a tree
 pub leaf_taken : (begin levels : ℕ) (first : Entry) (after : List Entry) (rs qs : List ℕ) (l : Leaf)
     → IsLeafIn l → first ≡ leaf_entry begin l → rs ≡ leaf_text l ++ qs
     → TakesTree begin levels (first ∷ after) rs (leaf l) after qs
 leaf_taken begin levels first after rs qs l h e k =
-    (ap (λ x. x ∷ after) e, k, h, omega arith)
+    (cc, k, h, omega arith)
 
 utf8_punct : (c : ℕ) → c < 128 → IsUtf8 (c ∷ [])
 utf8_punct c h = IsUtf8-from_ascii (c ∷ []) (λ i. grind (arith, h))
@@ -139,7 +126,7 @@ mutual
   utf8_tree (leaf (literal t s)) ((u, w), i) = u
   utf8_tree (leaf (punct c p s)) (h, i) =
       let small : c < 128 = punct_is_small c h in
-      subst IsUtf8 (sym (encode_ascii c small)) (utf8_punct c small)
+      rw (encode_ascii c small) (utf8_punct c small)
   utf8_tree (group d f s) (h, i) = utf8_texts f h
 
   pub utf8_texts : (f : Forest) → IsForestIn f → IsUtf8 (texts f)

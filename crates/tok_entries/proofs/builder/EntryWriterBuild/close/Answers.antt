@@ -1,4 +1,4 @@
-use Rattle.std.proofs.Common.{◌<◌, ap, arith, length, rules, string_bytes, subst, sym}
+use Rattle.std.proofs.Common.{ap, arith, length, rules, string_bytes}
 use Rattle.tok_leaves.specs.Spans.{opening_span, closing_span}
 use Rattle.tok_entries.specs.Private.Laid.{levels_in}
 use Rattle.tok_entries.proofs.Laid.{close_kept, close_shown, left_before, leaves_level}
@@ -24,8 +24,7 @@ overflow_sub-distance c =
     let es = c.self.inside.entries.items in
     let bs = string_bytes c.self.inside.texts in
     let h = leaves_level es bs c.self.inside.«open».items c.pop.new.self.items c.in-Some.start
-    (levels_in es bs) c.self.invariant (subst (λ w. 0 < length w.outer) (sym c.self.view_is)
-    c.requires) c.in-Some.ensures.items in
+    (levels_in es bs) c.self.invariant (rw c.self.view_is c.requires) c.in-Some.ensures.items in
     let before = left_before es bs c.pop.new.self.items c.in-Some.start (levels_in es bs) h in
     omega (
       arith,
@@ -40,8 +39,7 @@ index-requires c =
     let es = c.self.inside.entries.items in
     let bs = string_bytes c.self.inside.texts in
     let h = leaves_level es bs c.self.inside.«open».items c.pop.new.self.items c.in-Some.start
-    (levels_in es bs) c.self.invariant (subst (λ w. 0 < length w.outer) (sym c.self.view_is)
-    c.requires) c.in-Some.ensures.items in
+    (levels_in es bs) c.self.invariant (rw c.self.view_is c.requires) c.in-Some.ensures.items in
     let before = left_before es bs c.pop.new.self.items c.in-Some.start (levels_in es bs) h in
     omega (arith, before, c.in_ok-reserve.ensures.len, c.self.inside.entries.ok.0)
 
@@ -50,8 +48,7 @@ index_mut-requires c =
     let es = c.self.inside.entries.items in
     let bs = string_bytes c.self.inside.texts in
     let h = leaves_level es bs c.self.inside.«open».items c.pop.new.self.items c.in-Some.start
-    (levels_in es bs) c.self.invariant (subst (λ w. 0 < length w.outer) (sym c.self.view_is)
-    c.requires) c.in-Some.ensures.items in
+    (levels_in es bs) c.self.invariant (rw c.self.view_is c.requires) c.in-Some.ensures.items in
     let before = left_before es bs c.pop.new.self.items c.in-Some.start (levels_in es bs) h in
     omega (
       arith,
@@ -66,8 +63,7 @@ invariant_of-self-2 c =
     let es = c.self.inside.entries.items in
     let bs = string_bytes c.self.inside.texts in
     let h = leaves_level es bs c.self.inside.«open».items c.pop.new.self.items c.in-Some.start
-    (levels_in es bs) c.self.invariant (subst (λ w. 0 < length w.outer) (sym c.self.view_is)
-    c.requires) c.in-Some.ensures.items in
+    (levels_in es bs) c.self.invariant (rw c.self.view_is c.requires) c.in-Some.ensures.items in
     close_kept es c.push_reserved.new.self.items bs c.pop.new.self.items c.in-Some.start
     c.len.result c.index.result.now.text_start c.len-2.result (levels_in es bs) c.args.delimiter
     c.args.span (opening_span c.args.span) (closing_span c.args.span) c.edge-2.result c.edge.result
@@ -79,8 +75,7 @@ returns-clause-ok c =
     let es = c.self.inside.entries.items in
     let bs = string_bytes c.self.inside.texts in
     let h = leaves_level es bs c.self.inside.«open».items c.pop.new.self.items c.in-Some.start
-    (levels_in es bs) c.self.invariant (subst (λ w. 0 < length w.outer) (sym c.self.view_is)
-    c.requires) c.in-Some.ensures.items in
+    (levels_in es bs) c.self.invariant (rw c.self.view_is c.requires) c.in-Some.ensures.items in
     close_shown es c.push_reserved.new.self.items bs c.pop.new.self.items c.in-Some.start
     c.len.result c.index.result.now.text_start c.len-2.result (levels_in es bs) c.args.delimiter
     c.args.span (opening_span c.args.span) (closing_span c.args.span) c.edge-2.result c.edge.result
