@@ -48,10 +48,6 @@ keyword_of : (v : Bool) (p : Place)
 keyword_of true p = refl
 keyword_of false p = refl
 
-value_of : (v : Bool) → bool_of (bool_text v) ≡ Some v
-value_of true = refl
-value_of false = refl
-
 same_text : (v : Bool) → bytes_eq (bool_text v) (bool_text v) ≡ true
 same_text true = refl
 same_text false = refl

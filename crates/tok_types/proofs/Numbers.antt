@@ -60,16 +60,6 @@ abbrev pub PassedOver : List (List ℕ) → List ℕ → List ℕ → ℕ → Ty
 PassedOver texts numbers word n =
     (j : ℕ) → j < n → bytes_eq (get_or texts (get_or numbers j 0) []) word ≡ false
 
-pub passed_more : (texts : List (List ℕ)) (numbers word : List ℕ) (n : ℕ) →
-    PassedOver texts numbers word n →
-    bytes_eq (get_or texts (get_or numbers n 0) []) word ≡ false →
-    PassedOver texts numbers word (n + 1)
-passed_more texts numbers word n h e j small =
-    elim (eqb_tells j n) [
-      | inl s ↦ ap (λ z. bytes_eq (get_or texts (get_or numbers z 0) []) word) s.1 ∙ e
-      | inr d ↦ h j (omega (arith, d.1))
-    ]
-
 finds_among_numbers : (texts : List (List ℕ)) (numbers word : List ℕ) (b : ℕ) →
     begins_with b word ≡ true → numbers ≡ numbers_beginning b 0 texts →
     number_in texts word ≡ find (λ n. bytes_eq (get_or texts n []) word) numbers
