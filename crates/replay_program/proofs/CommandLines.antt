@@ -1,10 +1,9 @@
 -- The commands of lines, one line after the other.
 use Rattle.std.proofs.Common.{◌≡◌, ℕ, ◌+◌, ◌<◌, ◌≤◌, Bool, true, false, List, [], ◌∷◌, ◌++◌, length}
-use Rattle.std.proofs.Common.{map, Option, Some, None, IfSome, Bor, refl, ap, sym, ◌∙◌}
+use Rattle.std.proofs.Common.{map, Option, Some, None, IfSome, Bor, refl, ap, ◌∙◌}
 use Rattle.std.proofs.Common.{append_assoc, arith, length-append, lt-ltb, le-ltb}
 use Rattle.std.proofs.Math.ListN.{get_or-append}
 use Rattle.std.proofs.Math.Seq.{get_or-append_seam}
-use Rattle.std.proofs.lemmas.Bool.{cond-true, cond-false}
 use Rattle.std.proofs.lemmas.List.{append-nil, map-append}
 use Rattle.std.proofs.lemmas.List.Elements.{All-append, All-cons, filter_map-append}
 use Rattle.std.proofs.lemmas.List.Sums.{position_or_len_is}
@@ -56,19 +55,20 @@ pub read_more : (first others : Option (Bor (List ℕ))) (rest : Bor (List ℕ))
 read_more first others rest line commands more number said r e j u ok c m =
     let less : left_len others < left_len (Some rest) = left_less line rest others j in
     let one : map command_of (option_to_list said) ≡ option_to_list (command (words line)) =
-    map-option_to_list said ∙ ap option_to_list (sym c) in record {
+    cc (map-option_to_list said) in record {
       passed = r.passed ++ line ∷ [];
       readable =
           All-append (λ l. is_unreadable l ≡ false) r.passed (line ∷ []) r.readable
           (All-cons (λ l. is_unreadable l ≡ false) line [] ok (λ k d inside. absurd (omega arith)));
       all =
-          r.all ∙ ap (λ z. r.passed ++ z) e
-          ∙ sym (append_assoc r.passed (line ∷ []) (lines_left others));
+          cc (r.all, append_assoc r.passed (line ∷ []) (lines_left others));
       count = length-append r.passed (line ∷ []) ∙ ap (λ n. n + 1) r.count;
       said =
-          ap (map command_of) m ∙ map-append command_of commands (option_to_list said)
-          ∙ ap (λ z. z ++ map command_of (option_to_list said)) r.said
-          ∙ ap (λ z. commands_in r.passed ++ z) one ∙ sym (commands_in-push r.passed line);
+          cc (
+            map-append command_of commands (option_to_list said),
+            r.said,
+            commands_in-push r.passed line,
+          );
       room = omega (arith, r.room);
       utf8 = u;
     }
@@ -85,7 +85,7 @@ position_at p xs ys y fails passes =
     ∙ fails k y small) (λ _. ap p (get_or-append_seam xs y ys y) ∙ passes) in
     let inside : position_or_len p (xs ++ y ∷ ys) < length (xs ++ y ∷ ys) =
     omega (arith, at, len) in
-    cond-true _ _ _ (lt-ltb _ _ inside) ∙ ap Some at
+    rw (lt-ltb _ _ inside, at)
 
 position_none : (p : List ℕ → Bool) (xs : List (List ℕ)) → All (λ x. p x ≡ false) xs
     → position p xs ≡ None
@@ -94,7 +94,7 @@ position_none p xs fails =
     position_or_len_is p xs (length xs) [] (omega arith) (λ k small. fails k [] small)
     (λ past. absurd (omega arith)) in
     let past : length xs ≤ position_or_len p xs = omega (arith, at) in
-    cond-false _ _ _ (le-ltb _ _ past)
+    rw (le-ltb _ _ past)
 
 -- the first line that can't be read
 pub read_stop : (first others : Option (Bor (List ℕ))) (rest : Bor (List ℕ)) (line : List ℕ)
@@ -102,10 +102,12 @@ pub read_stop : (first others : Option (Bor (List ℕ))) (rest : Bor (List ℕ))
     → lines rest.now ≡ line ∷ lines_left others → is_unreadable line ≡ true
     → unreadable_line (lines_left first) ≡ Some (number + 1)
 read_stop first others rest line commands number r e bad =
-    ap unreadable_line (r.all ∙ ap (λ z. r.passed ++ z) e)
-    ∙ ap (option_map (λ i. i + 1))
-    (position_at is_unreadable r.passed (lines_left others) line r.readable bad)
-    ∙ ap (λ n. Some (n + 1)) r.count
+    rw (
+      r.all,
+      e,
+      position_at is_unreadable r.passed (lines_left others) line r.readable bad,
+      r.count,
+    )
 
 pub read_done : (first : Option (Bor (List ℕ))) (commands : List Command) (number : ℕ)
     → AreRead first None commands number
@@ -113,7 +115,6 @@ pub read_done : (first : Option (Bor (List ℕ))) (commands : List Command) (num
     × (map command_of commands ≡ commands_in (lines_left first))
 read_done first commands number r =
     let all : lines_left first ≡ r.passed = r.all ∙ append-nil r.passed in (
-      ap unreadable_line all ∙ ap (option_map (λ i. i + 1))
-          (position_none is_unreadable r.passed r.readable),
-      r.said ∙ ap commands_in (sym all),
+      rw (all, position_none is_unreadable r.passed r.readable),
+      rw all r.said,
     )

@@ -1,6 +1,6 @@
 -- A line stands in its text, so a text without the bytes has no such line.
 use Rattle.std.proofs.Common.{◌≡◌, ℕ, zero, suc, ◌+◌, ◌<◌, false, eqb, List, [], ◌∷◌, ◌++◌}
-use Rattle.std.proofs.Common.{length, get_or, None, ap, sym, subst, refl, ◌∙◌, arith, length-append}
+use Rattle.std.proofs.Common.{length, get_or, None, ap, subst, refl, ◌∙◌, arith, length-append}
 use Rattle.std.proofs.lemmas.Bool.{false_from_ne_true}
 use Rattle.std.proofs.lemmas.List.{append-nil, get_or_append_left, get_or-append-add}
 use Rattle.std.proofs.lemmas.List.Splits.{join_with_byte-slice_split}
@@ -34,15 +34,11 @@ module _ (needle : List ℕ) where
       → i < length (x ∷ xs) → get_or (x ∷ xs) i d ≡ needle
       → (k : ℕ) × OccursAt (join_with_byte c (x ∷ xs)) needle k
   occurs_joined c x [] zero d h e =
-      (0, subst (λ z. OccursAt z needle 0) (append_nil_is ∙ sym e) (occurs_first []))
-    where
-      append_nil_is : needle ++ [] ≡ needle
-      append_nil_is = append-nil needle
+      (0, rw e (rw append-nil at (occurs_first [])))
   occurs_joined c x [] (suc i) d h e = absurd (omega arith)
   occurs_joined c x (y ∷ ys) zero d h e = (
     0,
-    subst (λ z. OccursAt (z ++ c ∷ join_with_byte c (y ∷ ys)) needle 0) (sym e)
-        (occurs_first (c ∷ join_with_byte c (y ∷ ys))),
+    rw e (occurs_first (c ∷ join_with_byte c (y ∷ ys))),
   )
   occurs_joined c x (y ∷ ys) (suc i) d h e =
       let (k, o) = occurs_joined c y ys i d (omega arith) e in (

@@ -1,6 +1,6 @@
 -- Lines and words, one cut off after the other.
 use Rattle.std.proofs.Common.{◌≡◌, ℕ, ◌+◌, ◌-◌, ◌<◌, true, false, eqb, List, [], ◌∷◌, ◌++◌, length}
-use Rattle.std.proofs.Common.{take, drop, Option, Some, None, IfSome, Bor, refl, ap, sym, ◌∙◌}
+use Rattle.std.proofs.Common.{take, drop, Option, Some, None, IfSome, Bor, refl, ap, ◌∙◌}
 use Rattle.std.proofs.Common.{append_assoc, arith, length-append}
 use Rattle.std.proofs.Math.Seq.{take-append_seam}
 use Rattle.std.proofs.lemmas.List.{append-nil}
@@ -11,7 +11,7 @@ use Rattle.std.proofs.lemmas.List.Sums.{fails_before_first, position_or_len_is}
 use Rattle.std.proofs.lemmas.List.Splits.{slice_split_first, slice_split_none, slice_split_at}
 use Rattle.std.proofs.lemmas.List.Splits.{length-slice_split}
 use Rattle.memchr.specs.Find.{IsFirstByte, is_byte}
-use Rattle.std.specs.List.{All, slice_split, after_first, position_or_len}
+use Rattle.std.specs.List.{All, slice_split, position_or_len}
 use Rattle.std.specs.Str.{IsUtf8}
 use Rattle.replay_program.specs.Input.{lines, is_cut, text_of, texts_in, parts_of, lines_left}
 use Rattle.syn_replay.specs.ReportText.{as_line}
@@ -25,9 +25,7 @@ cut_at c bs front back k (none, found) f b =
     position_or_len_is (λ b. eqb b c) bs k 0 (omega (arith, none.high))
     (λ j before. false_from_ne_true _ (none.before j (omega arith) before)) (λ _. found) in
     slice_split_first (λ b. eqb b c) bs 0 (omega (arith, at, none.high))
-    ∙ ap (λ z. z ∷ slice_split (λ b. eqb b c) (after_first (λ b. eqb b c) bs))
-    (ap (λ n. take n bs) at ∙ sym f)
-    ∙ ap (λ z. front ∷ slice_split (λ b. eqb b c) z) (ap (λ n. drop (n + 1) bs) at ∙ sym b)
+    ∙ rw (at, f, b)
 
 pub cut_nowhere : (c : ℕ) (bs : List ℕ) → IsFirstByte (is_byte c) bs None
     → slice_split (λ b. eqb b c) bs ≡ bs ∷ []
@@ -48,7 +46,7 @@ pub record IsPast (input : List ℕ) (left : Option (Bor (List ℕ))) : Type 0 w
 
 text_of-push : (ls : List (List ℕ)) (l : List ℕ) → text_of (ls ++ l ∷ []) ≡ text_of ls ++ as_line l
 text_of-push ls l =
-    flat_map-append as_line ls (l ∷ []) ∙ ap (λ z. text_of ls ++ z) (append-nil (as_line l))
+    cc (flat_map-append as_line ls (l ∷ []), append-nil (as_line l))
 
 uncut_push : (ls : List (List ℕ)) (l : List ℕ) → All (λ line. is_cut line ≡ false) ls
     → is_cut l ≡ false → All (λ line. is_cut line ≡ false) (ls ++ l ∷ [])
@@ -65,8 +63,7 @@ past_more input line rest others past e j u uncut = record {
   passed = past.passed ++ line ∷ [];
   uncut = uncut_push past.passed line past.uncut uncut;
   all =
-      past.all ∙ ap (λ z. past.passed ++ z) e
-      ∙ sym (append_assoc past.passed (line ∷ []) (lines_left others));
+      cc (past.all, append_assoc past.passed (line ∷ []) (lines_left others));
   seam = seam others j u;
 } where
   seam : (b : Option (Bor (List ℕ))) → IfSome b (λ b. rest.now ≡ as_line line ++ b.now)
@@ -74,9 +71,11 @@ past_more input line rest others past e j u uncut = record {
       → IfSome b (λ r. (input ≡ text_of (past.passed ++ line ∷ []) ++ r.now) × IsUtf8 r.now)
   seam None j u = tt
   seam (Some b) j u = (
-    past.seam.0 ∙ ap (λ z. text_of past.passed ++ z) j
-        ∙ sym (append_assoc (text_of past.passed) (as_line line) b.now)
-        ∙ ap (λ z. z ++ b.now) (sym (text_of-push past.passed line)),
+    cc (
+      past.seam.0,
+      append_assoc (text_of past.passed) (as_line line) b.now,
+      text_of-push past.passed line,
+    ),
     u,
   )
 
@@ -92,8 +91,7 @@ past_cut input line text rest others past e found t =
     let len : length input - length rest.now ≡ length (text_of past.passed) =
     omega (arith, ap length past.seam.0, length-append (text_of past.passed) rest.now) in (
       past.passed,
-      t ∙ ap (λ n. take n input) len ∙ ap (take (length (text_of past.passed))) past.seam.0
-          ∙ take-append_seam (text_of past.passed) rest.now,
+      cc (past.seam.0, take-append_seam (text_of past.passed) rest.now),
       ap (slice_split is_cut) (past.all ∙ ap (λ z. past.passed ++ z) e)
           ∙ slice_split_at is_cut past.passed line (lines_left others) past.uncut found,
     )
@@ -103,8 +101,7 @@ pub past_all : (input : List ℕ) → IsPast input None
     → slice_split is_cut (lines input) ≡ lines input ∷ []
 past_all input past =
     let e : lines input ≡ past.passed = past.all ∙ append-nil past.passed in
-    ap (slice_split is_cut) e ∙ slice_split_none is_cut past.passed past.uncut
-    ∙ ap (λ z. z ∷ []) (sym e)
+    rw e (slice_split_none is_cut past.passed past.uncut)
 
 -- more than the bytes that are left, while something is
 abbrev pub left_len : Option (Bor (List ℕ)) → ℕ
@@ -131,5 +128,4 @@ pub parts_cut_again : (input : List ℕ) (before inside : List (List ℕ))
 parts_cut_again input before inside e middle after q third more r =
     let some : 0 < length (slice_split is_cut more) =
     omega (arith, length-slice_split is_cut more) in
-    ap texts_in (e ∙ ap (λ z. before ∷ z) (q ∙ ap (λ z. middle ∷ z) r))
-    ∙ long_parts before middle third (slice_split is_cut more) some
+    rw (e, q, r) (long_parts before middle third (slice_split is_cut more) some)

@@ -13,11 +13,9 @@ use Rattle.replay_program.specs.CommandText.{unreadable_line, commands_in}
 use Rattle.syn_replay.specs.Commands.{Command}
 use Rattle.replay_program.specs.Comparison.{AreFacts, Facts, Comparison, Compares, Reports}
 use Rattle.replay_program.specs.Comparison.{reported}
-use Rattle.replay_program.specs.Comparison.{compared, reports_text, reports_status}
-use Rattle.replay_program.specs.Faults.{unreadable_text}
+use Rattle.replay_program.specs.Comparison.{compared}
 use Rattle.replay_program.specs.Failures.{Reading, Writing, all_read}
 use Rattle.replay_program.specs.Output.{GoesOut}
-use Rattle.syn_replay.specs.ReportText.{as_line}
 use Rattle.replay_program.specs.Program.{HasParts, HasForests, IsForest, IsOther, IsUnreadable}
 use Rattle.replay_program.specs.Program.{AreReports}
 use Rattle.replay_program.specs.Program.{Fails, HasReports, Prints, PrintsOnly, Serves, ServesOnly}
@@ -25,16 +23,13 @@ use Rattle.replay_program.specs.Input.{parts_of}
 use Rattle.replay_program.specs.declared.fault.Unreadable.{Unreadable}
 use Rattle.replay_program.specs.declared.fault.Unreadable.TheVariants as why
 
-some_once : {A : Type 0} (a b : A) (o : Option A) → o ≡ Some a → o ≡ Some b → a ≡ b
-some_once a b o h k = let e : Some a ≡ Some b = sym h ∙ k in cc
-
 forest_is : (text other : List ℕ) (forest : Forest) → text ≡ other → IsForest text forest
     → IsForest other forest
-forest_is text other forest e h = subst (λ z. IsForest z forest) e h
+forest_is text other forest e h = rw e at h
 
 refused_is : (text other : List ℕ) (error : LexError) → text ≡ other
     → IsRejected Marked 0 (chars text) error → IsRejected Marked 0 (chars other) error
-refused_is text other error e h = subst (λ z. IsRejected Marked 0 (chars z) error) e h
+refused_is text other error e h = rw e at h
 
 -- a text reads as one forest, is refused with one error, and never both
 one_forest : (text : List ℕ) (forest other : Forest) → IsForest text forest → IsForest text other
@@ -49,9 +44,6 @@ not_read : (text : List ℕ) (forest : Forest) (error : LexError) → IsForest t
     → IsRejected Marked 0 (chars text) error → ⊥
 not_read text forest error h k = never_both 0 Marked 0 (chars text) forest error h k
 
-abbrev Parts : Type 0
-Parts = List ℕ × Option (List ℕ) × List (List ℕ)
-
 module _ (bytes : List ℕ) where
   record SameParts (text text' : List ℕ) (other other' : Option (List ℕ))
       (lines lines' : List (List ℕ)) : Type 0 where
@@ -63,14 +55,14 @@ module _ (bytes : List ℕ) where
       → HasParts bytes text other lines → HasParts bytes text' other' lines'
       → SameParts text text' other other' lines lines'
   parts_once text text' other other' lines lines' h k =
-      let e = some_once {A = Parts} (text, other, lines) (text', other', lines') _ h.1 k.1 in
+      let e : ◌≡◌ {A = List ℕ × Option (List ℕ) × List (List ℕ)} (text, other, lines)
+      (text', other', lines') = cc (h.1, k.1) in
       record { texts = ap (λ p. p.0) e; others = ap (λ p. p.1) e; commands = ap (λ p. p.2) e }
 
   no_parts : (text : List ℕ) (other : Option (List ℕ)) (lines : List (List ℕ))
       → parts_of bytes ≡ None
       → HasParts bytes text other lines → ⊥
-  no_parts text other lines e h = let f : ◌≡◌ {A = Option Parts} None (Some (text, other, lines)) =
-      sym e ∙ h.1 in cc
+  no_parts text other lines e h = cc h.1
 
   others_once : (text text' : Option (List ℕ)) (forest forest' : Option Forest) → text ≡ text'
       → IsOther text forest → IsOther text' forest' → forest ≡ forest'
@@ -82,7 +74,7 @@ module _ (bytes : List ℕ) where
   others_once (Some t) (Some u) None g e h k = absurd h
   others_once (Some t) (Some u) (Some f) None e h k = absurd k
   others_once (Some t) (Some u) (Some f) (Some g) e h k =
-      let same : t ≡ u = cc in ap Some (one_forest u f g (forest_is t u f same h) k)
+      let same : t ≡ u = cc in cc (one_forest u f g (forest_is t u f same h) k)
 
   record SameForests (forest forest' : Forest) (more more' : Option Forest)
       (lines lines' : List (List ℕ)) : Type 0 where
@@ -109,8 +101,7 @@ module _ (bytes : List ℕ) where
       → HasForests bytes forest more lines → HasForests bytes forest' more' lines'
       → unreadable_line lines ≡ o → unreadable_line lines' ≡ p → o ≡ p
   lines_once forest forest' more more' lines lines' o p h k e f =
-      sym e ∙ ap unreadable_line (forests_once forest forest' more more' lines lines' h k).commands
-      ∙ f
+      cc (forests_once forest forest' more more' lines lines' h k).commands
 
   -- what can't be read is no forest
   no_text : (text : List ℕ) (other : Option (List ℕ)) (lines lines' : List (List ℕ))
@@ -153,7 +144,7 @@ module _ (bytes : List ℕ) where
   why_once (why.Text e) why.Utf8 (t, o, ls, p, r) k = absurd (k p.0)
   why_once (why.Text e) why.Parts (t, o, ls, p, r) k = absurd (no_parts t o ls k.1 p)
   why_once (why.Text e) (why.Text f) (t, o, ls, p, r) (u, q, ms, k, s) =
-      ap why.Text (one_error u e f (refused_is t u e (parts_once t u o q ls ms p k).texts r) s)
+      cc (one_error u e f (refused_is t u e (parts_once t u o q ls ms p k).texts r) s)
   why_once (why.Text e) (why.Right f) (t, o, ls, p, r) (u, q, ms, g, k, s, d) =
       absurd (not_read u g e s (refused_is t u e (parts_once t u o (Some q) ls ms p k).texts r))
   why_once (why.Text e) (why.Command m) (t, o, ls, p, r) (g, q, ms, k, s) =
@@ -163,9 +154,8 @@ module _ (bytes : List ℕ) where
   why_once (why.Right e) (why.Text f) (t, o, ls, g, p, r, d) (u, q, ms, k, s) =
       absurd (not_read u g f (forest_is t u g (parts_once t u (Some o) q ls ms p k).texts r) s)
   why_once (why.Right e) (why.Right f) (t, o, ls, g, p, r, d) (u, q, ms, h, k, s, b) =
-      let same : o ≡ q =
-      some_once o q (Some q) (sym (parts_once t u (Some o) (Some q) ls ms p k).others) refl in
-      ap why.Right (one_error q e f (refused_is o q e same d) b)
+      let same : o ≡ q = cc (parts_once t u (Some o) (Some q) ls ms p k).others in
+      cc (one_error q e f (refused_is o q e same d) b)
   why_once (why.Right e) (why.Command m) (t, o, ls, g, p, r, d) (h, q, ms, k, s) =
       absurd (no_right t o ls ms e h q p d k)
   why_once (why.Command n) why.Utf8 (g, o, ls, (t, u, p, r, a), e) k = absurd (k p.0)
@@ -177,7 +167,7 @@ module _ (bytes : List ℕ) where
       absurd (no_right t o ls ms w h q p d k)
   why_once (why.Command n) (why.Command m) (f, o, ls, h, e) (g, q, ms, k, d) =
       let same : Some n ≡ Some m = lines_once f g o q ls ms (Some n) (Some m) h k e d in
-      ap why.Command (cc)
+      cc
 
 -- of two forests and commands there is one comparison
 same_truth : (a b : Bool) {P : Type 0} → (a ≡ true) ↔ P → (b ≡ true) ↔ P → a ≡ b
@@ -232,21 +222,18 @@ module _ (f g : Forest) (cs : List Command) where
 
 same_reports : (forest : Forest) (more : Option Forest) (cs : List Command) (o p : Reports)
     → AreReports forest more cs o → AreReports forest more cs p → o ≡ p
-same_reports forest None cs (reported r) (reported s) h k = ap reported (h ∙ sym k)
+same_reports forest None cs (reported r) (reported s) h k = cc
 same_reports forest None cs (reported r) (compared c) h k = absurd k
 same_reports forest None cs (compared c) p h k = absurd h
 same_reports forest (Some g) cs (reported r) p h k = absurd h
 same_reports forest (Some g) cs (compared c) (reported r) h k = absurd k
 same_reports forest (Some g) cs (compared c) (compared d) h k =
-    ap compared (comparison_once forest g cs c d h k)
+    cc (comparison_once forest g cs c d h k)
 
 reports_once : (bytes : List ℕ) (o p : Reports) → HasReports bytes o → HasReports bytes p → o ≡ p
 reports_once bytes o p (f, m, ls, h, e, r) (g, n, ks, k, d, s) =
     let same = forests_once bytes f g m n ls ks h k in
-    same_reports g n (commands_in ks) o p
-    (subst (λ z. AreReports g n (commands_in z) o) same.commands
-    (subst (λ z. AreReports g z (commands_in ls) o) same.others
-    (subst (λ z. AreReports z m (commands_in ls) o) same.forests r))) s
+    same_reports g n (commands_in ks) o p (rw (same.forests, same.others, same.commands) at r) s
 
 not_both : (bytes : List ℕ) (o : Reports) (w : Unreadable) → HasReports bytes o
     → IsUnreadable bytes w → ⊥
@@ -264,14 +251,14 @@ prints_once : (bytes printed other : List ℕ) (status code : ℕ) → Prints by
     → (printed ≡ other) × (status ≡ code)
 prints_once bytes printed other status code (inl (o, h, p, s)) (inl (o', h', p', s')) =
     let e = reports_once bytes o o' h h' in
-    (p ∙ ap reports_text e ∙ sym p', s ∙ ap reports_status e ∙ sym s')
+    (cc, cc)
 prints_once bytes printed other status code (inl (o, h, p, s)) (inr (w, k, q, t)) =
     absurd (not_both bytes o w h k)
 prints_once bytes printed other status code (inr (w, k, q, t)) (inl (o, h, p, s)) =
     absurd (not_both bytes o w h k)
 prints_once bytes printed other status code (inr (w, k, q, t)) (inr (w', k', q', t')) =
     let e = why_once bytes w w' k k' in
-    (q ∙ ap (λ w. as_line (unreadable_text w)) e ∙ sym q', t ∙ sym t')
+    (cc, cc)
 
 pub prints_only : (bytes printed : List ℕ) (status : ℕ) → Prints bytes printed status
     → PrintsOnly bytes printed status

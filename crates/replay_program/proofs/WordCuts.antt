@@ -1,10 +1,10 @@
 -- Words, cut off one after the other.
 use Rattle.std.proofs.Common.{◌≡◌, ℕ, true, false, eqb, List, []}
-use Rattle.std.proofs.Common.{◌∷◌, length, refl, ap, ◌∙◌, rules}
-use Rattle.std.proofs.lemmas.Bool.{cond-true, cond-false, false_from_ne_true}
+use Rattle.std.proofs.Common.{◌∷◌, length, refl, rules}
+use Rattle.std.proofs.lemmas.Bool.{false_from_ne_true}
 use Rattle.std.proofs.lemmas.Slice.Eq.{bytes_eq-Decides}
-use Rattle.std.specs.List.{filter, slice_split}
-use Rattle.std.specs.Prelude.{not, bytes_eq}
+use Rattle.std.specs.List.{slice_split}
+use Rattle.std.specs.Prelude.{bytes_eq}
 use Rattle.replay_program.specs.CommandText.{is_empty, words}
 
 -- words that differ
@@ -19,18 +19,15 @@ is_empty_len (x ∷ xs) = search rules
 pub words_take : (line front back : List ℕ)
     → slice_split (λ b. eqb b 32) line ≡ front ∷ slice_split (λ b. eqb b 32) back
     → is_empty front ≡ false → words line ≡ front ∷ words back
-words_take line front back h e =
-    ap (filter (λ w. not (is_empty w))) h ∙ cond-true _ _ _ (ap not e)
+words_take line front back h e = rw (h, e)
 
 -- a space before the first word
 pub words_skip : (line front back : List ℕ)
     → slice_split (λ b. eqb b 32) line ≡ front ∷ slice_split (λ b. eqb b 32) back
     → is_empty front ≡ true → words line ≡ words back
-words_skip line front back h e =
-    ap (filter (λ w. not (is_empty w))) h ∙ cond-false _ _ _ (ap not e)
+words_skip line front back h e = rw (h, e)
 
 -- the last word
 pub words_last : (line : List ℕ) → slice_split (λ b. eqb b 32) line ≡ line ∷ []
     → is_empty line ≡ false → words line ≡ line ∷ []
-words_last line h e =
-    ap (filter (λ w. not (is_empty w))) h ∙ cond-true _ _ _ (ap not e)
+words_last line h e = rw (h, e)

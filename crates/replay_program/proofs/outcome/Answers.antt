@@ -1,4 +1,4 @@
-use Rattle.std.proofs.Common.{◌≡◌, List, ℕ, Option, Result, Ok, Err, Some, None, ap, sym, subst, rules}
+use Rattle.std.proofs.Common.{◌≡◌, List, ℕ, Option, Result, Ok, Err, Some, None, ap, sym, rules}
 use Rattle.std.proofs.Common.{◌∙◌}
 use Rattle.std.specs.Prelude.{map}
 use Rattle.syn_replay.specs.Commands.{command_of}
@@ -13,7 +13,7 @@ use Rattle.tok_core.specs.declared.lexer.error.LexFault.TheVariants.{Refused, Me
 use Rattle.replay_program.specs.Faults.{OnUnreadable, fault_of}
 use Rattle.replay_program.specs.Input.{lines_left, parts_of, text_in}
 use Rattle.replay_program.specs.CommandText.{unreadable_line}
-use Rattle.replay_program.specs.Comparison.{Compares, compared, reported}
+use Rattle.replay_program.specs.Comparison.{compared, reported}
 use Rattle.replay_program.specs.Program.{HasForests, HasParts, IsForest}
 use Rattle.replay_program.specs.Program.{IsUnreadable, IsUnreadableOther}
 use Rattle.syn_replay.specs.Session.Walk.{walk}
@@ -36,35 +36,30 @@ other_refused : (bytes text : List ℕ) (other : Option (List ℕ)) (lines : Lis
     → (fault : Fault) → OnUnreadable fault (IsUnreadableOther other)
     → OnUnreadable fault (IsUnreadable bytes)
 other_refused bytes text None lines h forest r (faults.Unreadable w) k = absurd k
-other_refused bytes text (Some other) lines h forest r (faults.Unreadable why.Utf8) k = absurd k
-other_refused bytes text (Some other) lines h forest r (faults.Unreadable why.Parts) k = absurd k
-other_refused bytes text (Some other) lines h forest r (faults.Unreadable (why.Text e)) k = absurd k
 other_refused bytes text (Some other) lines h forest r (faults.Unreadable (why.Right e)) k =
     (text, other, lines, forest, h, r, k)
-other_refused bytes text (Some other) lines h forest r (faults.Unreadable (why.Command n)) k =
-    absurd k
+other_refused bytes text (Some other) lines h forest r (faults.Unreadable w) k = absurd k
 other_refused bytes text other lines h forest r faults.Memory k = tt
 
 refuse : {A : Type 0} (P : A → Type 0) (bytes : List ℕ) (fault : Fault) (r : Result A Fault)
     → IsErrAnd r (λ f. f ≡ fault) → OnUnreadable fault (IsUnreadable bytes)
     → MatchResult r P (λ f. OnUnreadable f (IsUnreadable bytes))
 refuse P bytes fault (Ok o) e h = absurd e
-refuse P bytes fault (Err f) e h = subst (λ f. OnUnreadable f (IsUnreadable bytes)) (sym e) h
+refuse P bytes fault (Err f) e h = rw e h
 
 -- what is told of all that was read
 told_so : {A : Type 0} (P Q : A → Type 0) (bytes : List ℕ) (r : Result A Fault)
     → MatchResult r P (λ f. f ≡ faults.Memory) → ((a : A) → P a → Q a)
     → MatchResult r Q (λ f. OnUnreadable f (IsUnreadable bytes))
 told_so P Q bytes (Ok a) h more = more a h
-told_so P Q bytes (Err f) h more =
-    subst (λ f. OnUnreadable f (IsUnreadable bytes)) (sym h) tt
+told_so P Q bytes (Err f) h more = rw h tt
 
 commands_refused : (bytes : List ℕ) (forest : Forest) (more : Option Forest) (lines : List (List ℕ))
     → HasForests bytes forest more lines → (fault : Fault)
     → OnUnreadable fault (λ w. (n : ℕ) × (w ≡ why.Command n) × (unreadable_line lines ≡ Some n))
     → OnUnreadable fault (IsUnreadable bytes)
 commands_refused bytes forest more lines h (faults.Unreadable w) (n, e, k) =
-    subst (IsUnreadable bytes) (sym e) (forest, more, lines, h, k)
+    rw e (forest, more, lines, h, k)
 commands_refused bytes forest more lines h faults.Memory k = tt
 
 pub returns-in_err-buffer : goal.returns-in_err-buffer
@@ -74,7 +69,7 @@ returns-in_err-buffer c =
     let lines = lines_left c.in-Some.lines in
     let (same, utf8) = c.in-Ok.ensures.cases in
     let parts : HasParts bytes text (text_in c.in-Some.other) lines =
-    (utf8, ap parts_of (sym same) ∙ c.in-Some.ensures.parts) in
+    (utf8, cc (same, c.in-Some.ensures.parts)) in
     let fault = c.in_err-buffer.field-0.0 in
     refuse _ bytes (fault_of fault) c.from_residual.result c.from_residual.ensures.1
     (text_refused bytes text (text_in c.in-Some.other) lines parts fault
@@ -86,11 +81,8 @@ returns-in_default-other c =
     let text = c.in-Some.text.now in
     let lines = lines_left c.in-Some.lines in
     let (same, utf8) = c.in-Ok.ensures.cases in
-    let parts : HasParts bytes text None lines = (
-      utf8,
-      ap parts_of (sym same) ∙ c.in-Some.ensures.parts
-          ∙ ap (λ o. Some (text, text_in o, lines)) c.in_default-other.is,
-    ) in
+    let parts : HasParts bytes text None lines =
+    (utf8, cc (same, c.in-Some.ensures.parts, c.in_default-other.is)) in
     let forest = c.in_ok-buffer.buffer.forest in
     let read : IsForest text forest = search rules in
     let cs = map command_of c.deref.result.now in
@@ -117,11 +109,8 @@ returns-in_err-stream c =
     let lines = lines_left c.in-Some.lines in
     let (same, utf8) = c.in-Ok.ensures.cases in
     let other = c.in-Some-other.other.now in
-    let parts : HasParts bytes text (Some other) lines = (
-      utf8,
-      ap parts_of (sym same) ∙ c.in-Some.ensures.parts
-          ∙ ap (λ o. Some (text, text_in o, lines)) c.in-Some-other.is,
-    ) in
+    let parts : HasParts bytes text (Some other) lines =
+    (utf8, cc (same, c.in-Some.ensures.parts, c.in-Some-other.is)) in
     let fault = c.in_err-stream.field-0.0 in
     refuse _ bytes (fault_of fault) c.from_residual-in_err-stream.result
     c.from_residual-in_err-stream.ensures.1
@@ -134,11 +123,8 @@ returns-in_err-right c =
     let lines = lines_left c.in-Some.lines in
     let (same, utf8) = c.in-Ok.ensures.cases in
     let other = c.in-Some-other.other.now in
-    let parts : HasParts bytes text (Some other) lines = (
-      utf8,
-      ap parts_of (sym same) ∙ c.in-Some.ensures.parts
-          ∙ ap (λ o. Some (text, text_in o, lines)) c.in-Some-other.is,
-    ) in
+    let parts : HasParts bytes text (Some other) lines =
+    (utf8, cc (same, c.in-Some.ensures.parts, c.in-Some-other.is)) in
     let fault = c.in_err-right.field-0.0 in
     refuse _ bytes fault c.from_residual-in_err-right.result c.from_residual-in_err-right.ensures.1
     (other_refused bytes text (Some other) lines parts c.in_ok-stream.stream
@@ -152,11 +138,8 @@ returns-in_err-commands-2 c =
     let lines = lines_left c.in-Some.lines in
     let (same, utf8) = c.in-Ok.ensures.cases in
     let other = c.in-Some-other.other.now in
-    let parts : HasParts bytes text (Some other) lines = (
-      utf8,
-      ap parts_of (sym same) ∙ c.in-Some.ensures.parts
-          ∙ ap (λ o. Some (text, text_in o, lines)) c.in-Some-other.is,
-    ) in
+    let parts : HasParts bytes text (Some other) lines =
+    (utf8, cc (same, c.in-Some.ensures.parts, c.in-Some-other.is)) in
     let fault = c.in_err-commands-2.field-0.0 in
     refuse _ bytes fault c.from_residual-in_err-commands-2.result
     c.from_residual-in_err-commands-2.ensures.1
@@ -192,7 +175,7 @@ returns c =
         lines,
         (text, Some other, parts, c.in_ok-stream.ensures.reads, c.in_ok-right.ensures),
         c.in_ok-commands-2.ensures.0,
-        subst (λ cs. Compares left right cs x) same_commands compares,
+        rw same_commands at compares,
       ),
       printed,
       status,

@@ -1,4 +1,4 @@
-use Rattle.std.proofs.Common.{◌≡◌, List, ℕ, Result, Ok, Err, Some, ap, sym, subst, ◌∙◌}
+use Rattle.std.proofs.Common.{◌≡◌, List, ℕ, Result, Ok, Err, Some, ap, sym, ◌∙◌}
 use Rattle.std.specs.Prelude.{map}
 use Rattle.std.specs.Result.{IsErrAnd, MatchResult}
 use Rattle.std.specs.Str.{IsUtf8}
@@ -19,14 +19,14 @@ refuse : {A : Type 0} (P : A → Type 0) (U : Unreadable → Type 0) (fault : Fa
     (r : Result A Fault) → IsErrAnd r (λ f. f ≡ fault) → OnUnreadable fault U
     → MatchResult r P (λ f. OnUnreadable f U)
 refuse P U fault (Ok o) e h = absurd e
-refuse P U fault (Err f) e h = subst (λ f. OnUnreadable f U) (sym e) h
+refuse P U fault (Err f) e h = rw e h
 
 -- what is told of all that was read
 told_so : {A : Type 0} (P Q : A → Type 0) (U : Unreadable → Type 0) (r : Result A Fault)
     → MatchResult r P (λ f. f ≡ faults.Memory) → ((a : A) → P a → Q a)
     → MatchResult r Q (λ f. OnUnreadable f U)
 told_so P Q U (Ok a) h more = more a h
-told_so P Q U (Err f) h more = subst (λ f. OnUnreadable f U) (sym h) tt
+told_so P Q U (Err f) h more = rw h tt
 
 -- the fault of one of the lines of commands
 lines_refused : (bytes text : List ℕ) → text ≡ bytes → IsUtf8 bytes → (fault : Fault)
@@ -34,8 +34,7 @@ lines_refused : (bytes text : List ℕ) → text ≡ bytes → IsUtf8 bytes → 
     × (unreadable_line (lines text) ≡ Some n))
     → OnUnreadable fault (IsUnreadableFor bytes)
 lines_refused bytes text same u (faults.Unreadable w) (n, e, k) =
-    subst (IsUnreadableFor bytes) (sym e)
-    (u, ap (λ b. unreadable_line (lines b)) (sym same) ∙ k)
+    rw e (u, rw same at k)
 lines_refused bytes text same u faults.Memory k = tt
 
 pub returns-in_err-commands : goal.returns-in_err-commands

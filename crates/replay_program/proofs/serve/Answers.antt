@@ -1,4 +1,4 @@
-use Rattle.std.proofs.Common.{List, ℕ, [], inl, inr, refl, subst, sym}
+use Rattle.std.proofs.Common.{List, ℕ, [], inl, inr, refl, subst}
 use Rattle.std.proofs.KnownBytes.{Keeps-refl}
 use Rattle.replay_program.specs.Failures.{reading, writing}
 use Rattle.replay_program.specs.Program.{Serves, ServesOnly}
@@ -11,7 +11,8 @@ returns-in-Ok-clause-answers g c =
     let written = writing g.W.Sink.writes g.W.Sink.flushes c.args.output.now c.answer.new.output in
     let old = g.W.Sink.contents c.args.output.now in
     let new = g.W.Sink.contents c.answer.new.output in
-    let whole = subst read.whole (sym c.deref.ensures.value) c.in-Ok.ensures.whole in
+    let whole : read.whole c.deref.result.now =
+    rw c.deref.ensures.value c.in-Ok.ensures.whole in
     let served =
     serves_read read written c.deref.result.now c.answer.result old new whole
     c.answer.ensures.serves in (
@@ -30,7 +31,7 @@ returns-in-Ok-clause-serves g c =
     known_read P (g.R.Source.remaining c.args.input.now) c.in-Ok.bytes.items c.in-Ok.ensures.bytes
     (subst P c.deref.ensures.value
     (serves_read read written c.deref.result.now c.answer.result old new
-    (subst read.whole (sym c.deref.ensures.value) c.in-Ok.ensures.whole)
+    (rw c.deref.ensures.value c.in-Ok.ensures.whole)
     c.answer.ensures.serves))
 
 pub returns-in-Ok-clause-only : goal.returns-in-Ok-clause-only
@@ -44,7 +45,7 @@ returns-in-Ok-clause-only g c =
     (subst P c.deref.ensures.value
     (serves_only read written c.deref.result.now c.answer.result old new
     (serves_read read written c.deref.result.now c.answer.result old new
-    (subst read.whole (sym c.deref.ensures.value) c.in-Ok.ensures.whole)
+    (rw c.deref.ensures.value c.in-Ok.ensures.whole)
     c.answer.ensures.serves)))
 
 pub returns-in-Err-Failed-clause-only : goal.returns-in-Err-Failed-clause-only

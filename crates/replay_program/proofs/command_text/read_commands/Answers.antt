@@ -1,29 +1,23 @@
-use Rattle.std.proofs.Common.{◌+◌, Some, None, refl, subst, ap, sym, ◌∙◌}
+use Rattle.std.proofs.Common.{◌+◌, Some, None, refl, ap, sym, ◌∙◌}
 use Rattle.std.proofs.lemmas.List.{append-nil}
 use Rattle.std.specs.Option.{option_map}
-use Rattle.replay_program.specs.Faults.{IsUnreadableLine}
 use Rattle.syn_replay.specs.Commands.{command_of}
-use Rattle.replay_program.proofs.CommandLines.{AreRead, read_more, read_stop, read_done}
+use Rattle.replay_program.proofs.CommandLines.{read_more, read_stop, read_done}
 use Rattle.replay_program.proofs.command_text.read_commands.Goals as goal
 
 pub returns-in-Err-Unreadable : goal.returns-in-Err-Unreadable
 returns-in-Err-Unreadable c =
-    let r =
-    subst (λ z. AreRead c.args.lines z c.loop-left.commands.items c.loop-left.number)
-    c.in-Some.is c.loop-left.invariant in (
+    let r = rw c.in-Some.is at c.loop-left.invariant in (
       c.loop-left.number + 1,
       refl,
       read_stop c.args.lines c.first_line.result.1 c.in-Some.rest c.first_line.result.0.now
           c.loop-left.commands.items c.loop-left.number r c.first_line.ensures.lines
-          (subst (λ z. IsUnreadableLine z c.first_line.result.0.now) c.in-Err-Unreadable.field-0-is
-          c.in-Err-Unreadable.ensures),
+          (rw c.in-Err-Unreadable.field-0-is at c.in-Err-Unreadable.ensures),
     )
 
 pub loop-left-preserved-in-Ok-None : goal.loop-left-preserved-in-Ok-None
 loop-left-preserved-in-Ok-None c =
-    let r =
-    subst (λ z. AreRead c.args.lines z c.loop-left.commands.items c.loop-left.number)
-    c.in-Some.is c.loop-left.invariant in
+    let r = rw c.in-Some.is at c.loop-left.invariant in
     let (ok, said) = c.in-Ok-None.ensures in
     read_more c.args.lines c.first_line.result.1 c.in-Some.rest c.first_line.result.0.now
     c.loop-left.commands.items c.loop-left.commands.items c.loop-left.number None r
@@ -33,9 +27,7 @@ loop-left-preserved-in-Ok-None c =
 
 pub loop-left-preserved : goal.loop-left-preserved
 loop-left-preserved c =
-    let r =
-    subst (λ z. AreRead c.args.lines z c.loop-left.commands.items c.loop-left.number)
-    c.in-Some.is c.loop-left.invariant in
+    let r = rw c.in-Some.is at c.loop-left.invariant in
     let (ok, said) = c.in-Ok-Some.ensures in
     read_more c.args.lines c.first_line.result.1 c.in-Some.rest c.first_line.result.0.now
     c.loop-left.commands.items c.push.new.self.items c.loop-left.number
@@ -46,5 +38,4 @@ loop-left-preserved c =
 pub returns : goal.returns
 returns c =
     read_done c.args.lines c.loop-left.commands.items c.loop-left.number
-    (subst (λ z. AreRead c.args.lines z c.loop-left.commands.items c.loop-left.number)
-    c.in_default.is c.loop-left.invariant)
+    (rw c.in_default.is at c.loop-left.invariant)
