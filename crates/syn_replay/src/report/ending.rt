@@ -15,6 +15,9 @@ use std::fmt::{Formatter, Write};
 use std::str::from_utf8_unchecked;
 use tok_core::Span;
 
+// A number takes at most 20 bytes. So a place takes 23 with its space, `@` and line feed, and a range
+// 43 with its space and `..`. The 66 bytes of both fit into 72, a multiple of eight.
+
 // Puts a byte before the bytes from `end` on, and returns where it is.
 fn put(bytes: &mut [u8; 72], byte: u8, end: usize) -> usize
     requires room { (0 < end) × (end ≤ 72) }
