@@ -1,6 +1,5 @@
 -- A group takes what is inside, and then what is after it.
-use Rattle.std.proofs.Common.{◌≡◌, ◌∙◌, sym, ap, subst, refl, arith, ◌<◌, ◌≤◌, Bool, true, false}
-use Rattle.std.proofs.Common.{not}
+use Rattle.std.proofs.Common.{◌≡◌, ◌∙◌, sym, ap, subst, refl, arith, ◌<◌, ◌≤◌}
 use Rattle.std.proofs.Common.{Option, Some, None, Ok, Err}
 use Rattle.std.specs.Option.{option_or}
 use Rattle.std.specs.Prelude.{Result, IfSome, is_some, length, option_map}
@@ -11,7 +10,7 @@ use Rattle.tok_leaves.specs.Spans.{closing_span, whole_span}
 use Rattle.tok_core.specs.Filled.{has_trees}
 use Rattle.tok_core.specs.Forest.{Forest, no_trees, tree}
 use Rattle.tok_core.specs.Weight.{weight}
-use Rattle.tok_buffer.specs.Ahead.{Leftover, left_of, leftover}
+use Rattle.tok_buffer.specs.Ahead.{Leftover, leftover}
 use Rattle.tok_buffer.specs.Entry.{Entered, enter, EnteredWith}
 use Rattle.tok_buffer.specs.InFront.{entered_ahead, first_group, first_tree_span}
 use Rattle.tok_buffer.specs.Place.{Place}
@@ -322,18 +321,3 @@ module _ {T : Type 0} (span_of : T → DelimSpan) (content : T → State) (d : D
 pub at-states : {T : Type 0} (calls : Call T) (s t u v : State) (r : Result T Fault) → s ≡ u → t ≡ v
     → calls s r t → calls u r v
 at-states calls s t u v r a b h = subst (λ x. calls x r v) a (subst (λ x. calls s r x) b h)
-
--- whether nothing is left over
-left-some : (x : Option (Span × Delimiter)) → is_some (left_of x) ≡ is_some x
-left-some None = refl
-left-some (Some l) = refl
-
-twice : (b : Bool) → b ≡ not (not b)
-twice true = refl
-twice false = refl
-
-pub done_told : (x : Option (Span × Delimiter)) (b : Bool) (p q : Place) → is_some x ≡ not b
-    → left_of x ≡ leftover q → q ≡ p → b ≡ not (has_trees (erased_ahead p))
-done_told x b p q h k e =
-    twice b ∙ ap not (sym h ∙ sym (left-some x) ∙ ap is_some k ∙ leftover-trees q
-    ∙ ap (λ y. has_trees (erased_ahead y)) e)

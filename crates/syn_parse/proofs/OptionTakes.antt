@@ -1,6 +1,6 @@
 -- An optional value takes what its type states.
-use Rattle.std.proofs.Common.{◌≡◌, ◌∙◌, sym, ap, true, false, cond, Option, Some, None}
-use Rattle.std.proofs.Common.{Ok, Err}
+use Rattle.std.proofs.Common.{◌≡◌, ◌∙◌, sym, ap, true, cond, Option, Some, None}
+use Rattle.std.proofs.Common.{Err}
 use Rattle.std.specs.Prelude.{Bool, option_map}
 use Rattle.tok_core.specs.Forest.{Forest}
 use Rattle.tok_buffer.specs.View.{erased_ahead}
@@ -24,42 +24,12 @@ module _ {T A : Type 0} (form : T → A) (take : Taking A) (test : Forest → Bo
   abbrev either : Taking (Option A)
   either = take_optional (λ a. test a.trees) take
 
-  some-taken : (v : T) → true ≡ test (erased_ahead s.place) → TakesAs form take s (Ok v) t
-      → TakesAs (option_map form) either s (Ok (Some v)) t
-  some-taken v h k = (
-    where-true (λ a. test a.trees) take (ahead s) h
-        ∙ ap (λ o. and_then o (λ x b. found (Some x) b)) k.0,
-    k.1,
-  )
-
-  none-taken : false ≡ test (erased_ahead s.place) → TakesAs (option_map form) either s (Ok None) s
-  unfolding take_optional
-  none-taken h = (
-    ap (λ c. cond c (and_then (take (ahead s)) (λ x b. found (Some x) b)) (found None (ahead s)))
-        (sym h),
-    stays_here s,
-  )
-
   error-taken : (f : Fault) → true ≡ test (erased_ahead s.place) → TakesAs form take s (Err f) t
       → TakesAs (option_map form) either s (Err f) t
   error-taken f h k =
       fails_on (take (ahead s)) (either (ahead s))
       (λ m e. where-true (λ a. test a.trees) take (ahead s) h
       ∙ ap (λ o. and_then o (λ x b. found (Some x) b)) e) f s s (stays_here s) k
-
-pub some_keeps : {T : Type 0} (sees : Option (Forest → Bool)) (takes : Takings T) (s t : State)
-    (v : T)
-    → Sees sees s.place true → Keeps takes s (Ok v) t
-    → Keeps (optional sees takes) s (Ok (Some v)) t
-some_keeps (Some test) (stated alone form take w) s t v h k =
-    under alone _ _ (λ i. some-taken form take test s t v h (given alone _ _ k i))
-some_keeps sees takes s t v h k = tt
-
-pub none_keeps : {T : Type 0} (sees : Option (Forest → Bool)) (takes : Takings T) (s : State)
-    → Sees sees s.place false → Keeps (optional sees takes) s (Ok None) s
-none_keeps (Some test) (stated alone form take w) s h =
-    under alone _ _ (λ i. none-taken form take test s s h)
-none_keeps sees takes s h = tt
 
 pub error_keeps : {T : Type 0} (sees : Option (Forest → Bool)) (takes : Takings T) (s t : State)
     (f : Fault)

@@ -378,12 +378,6 @@ token_shape (token.punctuation k n) h =
     by_read _ _ _ (λ ts. record { spans = map tree_span ts }) _ (puncts (punctuation_word k n))
     (λ ts i. (i, refl)) (λ v ts i. (i.0, ap (λ xs. record { spans = xs }) (sym i.1)))
 
-pub nothing_shape : Shape (λ v ts. ts ≡ []) take_nothing
-nothing_shape = record {
-  taken = λ a b v e. ([], refl, found_second e);
-  takes = λ b v ts i. ap (λ us. found v (before us b)) i;
-}
-
 -- a group, and what is left within it
 pub record GroupTaken {A : Type 0} (d : Delimiter) (inner : Taking A) (v : DelimSpan
     × A) (a b : Ahead)
