@@ -1,13 +1,15 @@
 -- Values that hold values of their own kind: how they are taken, by what is taken within them.
-use Rattle.std.proofs.Common.{◌≡◌, ◌∙◌, ap, refl, arith, ℕ, zero, suc, ◌+◌, ◌<◌, Bool, if◌then◌else◌}
-use Rattle.std.proofs.Common.{Option, Some, None, []}
+use Rattle.std.proofs.Common.{◌≡◌, ◌∙◌, ap, refl, arith, ℕ, zero, suc, ◌+◌, ◌*◌, ◌<◌, Bool}
+use Rattle.std.proofs.Common.{if◌then◌else◌, Option, Some, None, []}
 use Rattle.tok_lexical.specs.declared.delimiter.Delimiter.{Delimiter}
 use Rattle.tok_core.specs.Weight.{weight}
 use Rattle.tok_core.specs.Forest.{Forest}
 use Rattle.tok_buffer.specs.Entry.{EnteredWith}
 use Rattle.tok_buffer.specs.InFront.{first_group}
+use Rattle.tok_buffer.specs.Progress.{remaining}
 use Rattle.syn_parse.specs.Lighter.{group_weighs, lessens_bind, lessens_where, lightens_group}
 use Rattle.syn_parse.specs.Lighter.{lightens_lower, lowering}
+use Rattle.syn_parse.specs.State.{State}
 use Rattle.syn_parse.specs.Takes.{Outcome, Taking, found, missing, and_then, ◌>>=◌, where_ahead}
 use Rattle.syn_parse.specs.Takes.{after_inside, inside_first, refuses, take_group}
 use Rattle.syn_parse.specs.Takings.{Lightens, Lowers}
@@ -105,6 +107,11 @@ pub ruleset descending = (
   descends_where,
   descends_group,
 )
+
+-- A measure for the functions of a parser that calls itself in groups: each has a rank, and one
+-- that calls another on the same stream has the larger rank.
+abbrev pub rank : ℕ → State → ℕ
+rank n s = 8 * remaining s.place + n
 
 -- values within values, at most so many levels of them
 abbrev pub levels : {A : Type 0} → ℕ → (Taking A → Taking A) → Taking A
