@@ -1,5 +1,5 @@
 -- A token and a value that fails after it.
-use Rattle.std.proofs.Common.{◌≡◌, ◌∙◌, sym, ap, true, cond, Bool, Option, Some, None, Ok, Err}
+use Rattle.std.proofs.Common.{arith, ◌≡◌, true, Bool, Option, Some, Ok, Err}
 use Rattle.std.specs.Prelude.{option_map}
 use Rattle.tok_core.specs.Forest.{Forest}
 use Rattle.tok_types.specs.Sees.{Sees}
@@ -7,28 +7,19 @@ use Rattle.syn_parse.proofs.Failing.{fails_on}
 use Rattle.syn_parse.proofs.Premises.{given, given_on, under}
 use Rattle.syn_parse.specs.After.{after, take_after}
 use Rattle.syn_parse.specs.State.{State}
-use Rattle.syn_parse.specs.Takes.{Outcome, Taking, TakesAs, and_then, found}
+use Rattle.syn_parse.specs.Takes.{Taking, TakesAs}
 use Rattle.syn_parse.specs.Takings.{Keeps, Takings, stated, told}
 use Rattle.syn_parse.specs.TreesAhead.{Ahead, ahead}
 use Rattle.syn_parse.specs.declared.fault.Fault.{Fault}
 
 module _ {P T A B : Type 0} (shape : P → A) (form : T → B) (token : Taking A) (take : Taking B)
     (test : Ahead → Bool) where
-  abbrev then_value : A → Ahead → Outcome (Option (A × B))
-  then_value p c = and_then (take c) (λ v d. found (Some (p, v)) d)
-
   value-fails : (s m t : State) (p : P) (f : Fault) → true ≡ test (ahead s)
       → TakesAs shape token s (Ok p) m → TakesAs form take m (Err f) t
       → TakesAs (option_map (λ (r : P × T). (shape r.0, form r.1))) (take_after test token take) s
       (Err f) t
   unfolding take_after
-  value-fails s m t p f h k w =
-      fails_on (take (ahead m)) (take_after test token take (ahead s))
-      (λ x e. ap (λ b. cond b (and_then (token (ahead s)) then_value) (found None (ahead s)))
-      (sym h)
-      ∙ ap (λ o. and_then o then_value) k.0
-      ∙ ap (λ o. and_then o (λ v d. found (Some (shape p, v)) d)) e) f
-      s m k.1 w
+  value-fails s m t p f h k w = grind (arith, fails_on)
 
 pub value_fails : {P T : Type 0} (sees : Option (Forest → Bool)) (tokens : Takings P)
     (values : Takings T) (s m t : State) (p : P) (f : Fault) → Sees sees s.place true

@@ -1,20 +1,19 @@
 -- A group takes what is inside, and then what is after it.
-use Rattle.std.proofs.Common.{◌≡◌, ◌∙◌, sym, ap, subst, refl, arith, ◌<◌, ◌≤◌}
-use Rattle.std.proofs.Common.{Option, Some, None, Ok, Err}
+use Rattle.std.proofs.Common.{◌≡◌, ◌∙◌, sym, ap, subst, refl, arith, ◌<◌, ◌≤◌, Option, Some, None}
+use Rattle.std.proofs.Common.{Ok, Err}
 use Rattle.std.specs.Option.{option_or}
-use Rattle.std.specs.Prelude.{Result, IfSome, is_some, length, option_map}
+use Rattle.std.specs.Prelude.{Result, is_some, length, option_map}
 use Rattle.tok_lexical.specs.declared.delimiter.Delimiter.{Delimiter}
 use Rattle.tok_leaves.specs.declared.span.DelimSpan.{DelimSpan}
 use Rattle.tok_leaves.specs.declared.span.Span.{Span}
 use Rattle.tok_leaves.specs.Spans.{closing_span, whole_span}
 use Rattle.tok_core.specs.Filled.{has_trees}
-use Rattle.tok_core.specs.Forest.{Forest, no_trees, tree}
+use Rattle.tok_core.specs.Forest.{Forest}
 use Rattle.tok_core.specs.Weight.{weight}
 use Rattle.tok_buffer.specs.Ahead.{Leftover, leftover}
 use Rattle.tok_buffer.specs.Entry.{Entered, enter, EnteredWith}
 use Rattle.tok_buffer.specs.InFront.{entered_ahead, first_group, first_tree_span}
 use Rattle.tok_buffer.specs.Place.{Place}
-use Rattle.tok_buffer.specs.Reached.{Reached}
 use Rattle.tok_buffer.specs.declared.error.Message.{Message}
 use Rattle.tok_buffer.specs.View.{IsVisibleDelimiter, erased_ahead}
 use Rattle.tok_buffer.specs.Progress.{remaining}
@@ -28,16 +27,14 @@ use Rattle.syn_parse.specs.Reads.{Call}
 use Rattle.syn_parse.specs.State.{State, after_group, closed, content_of}
 use Rattle.syn_parse.specs.declared.fault.Fault.{Fault}
 use Rattle.syn_parse.specs.declared.fault.Fault.TheVariants.{Refused, Memory}
-use Rattle.syn_parse.specs.TreesAhead.{IsFilled, after_content, ahead, scope_of}
-use Rattle.syn_parse.specs.TreesAhead.{unread_after}
+use Rattle.syn_parse.specs.TreesAhead.{IsFilled, after_content, ahead, scope_of, unread_after}
 use Rattle.syn_parse.specs.Lighter.{group_is_first, group_weighs}
 use Rattle.syn_parse.specs.Grouped.{grouped}
 use Rattle.syn_parse.specs.Takings.{Keeps, Takings, stated, untold}
 use Rattle.syn_parse.specs.Positions.{Missing, missing_inside, scope_trees}
 use Rattle.syn_parse.specs.Takes.{EntersAhead, IsMissing, MemoryOr, Outcome, Says, SaysFound}
-use Rattle.syn_parse.specs.Takes.{TakeWithin}
-use Rattle.syn_parse.specs.Takes.{TakesAs, Taking}
-use Rattle.syn_parse.specs.Takes.{after_inside, found, inside_first, missing, take_group}
+use Rattle.syn_parse.specs.Takes.{TakeWithin, TakesAs, Taking, after_inside, found, inside_first}
+use Rattle.syn_parse.specs.Takes.{take_group}
 use Rattle.syn_parse.proofs.Scopes.{one_scope}
 use Rattle.syn_parse.proofs.Failing.{says_memory}
 use Rattle.syn_parse.proofs.Positions.{after_trees, content_at}
@@ -47,10 +44,7 @@ use Rattle.syn_parse.proofs.Told.{here_told}
 -- a leftover is there where a visible tree is
 left-trees : (l : Option Leftover) (f : Forest) → option_map (λ x. x.span) l ≡ first_tree_span f
     → is_some l ≡ has_trees f
-left-trees None no_trees e = refl
-left-trees None (tree t f) e = absurd (cc)
-left-trees (Some l) no_trees e = absurd (cc)
-left-trees (Some l) (tree t f) e = refl
+left-trees l f e = grind arith
 
 pub leftover-trees : (p : Place) → is_some (leftover p) ≡ has_trees (erased_ahead p)
 leftover-trees p = left-trees (leftover p) (erased_ahead p) (ahead_tells p).leftovers
@@ -61,9 +55,7 @@ left_span = option_map (λ l. l.span)
 unread-or : (n m l : Option Leftover)
     → left_span (option_or n (option_or m l))
     ≡ option_or (left_span n) (option_or (left_span m) (left_span l))
-unread-or None None l = refl
-unread-or None (Some m) l = refl
-unread-or (Some n) m l = refl
+unread-or n m l = grind arith
 
 after-closed : (left s : State) (e : Entered)
     → ahead (closed left (after_group e s))
@@ -78,19 +70,12 @@ span-is : (d : DelimSpan) (x : Span) → d.join ≡ x → d ≡ record { join = 
 span-is d x e = ap (λ y. record { join = y }) e
 
 memory-or : (f : Fault) (P Q : Type 0) → (P → Q) → MemoryOr f P → MemoryOr f Q
-memory-or (Refused e) P Q h m = (h m.0, m.1)
-memory-or (Memory e) P Q h m = tt
+memory-or f P Q h m = grind arith
 
 both-filled : (d : Delimiter) → IsVisibleDelimiter d → (p : Place) (e : Entered)
     → enter d p ≡ Some e
     → IsFilled p → IsFilled e.content × IsFilled e.after
-both-filled d v p e h i =
-    let leads =
-    subst (λ y. IfSome y (λ x. Reached i.buffer x.content × Reached i.buffer x.after)) h
-    ((calls_lead_on i.buffer p i.reached).enters d v) in (
-      record { buffer = i.buffer; filled_buffer = i.filled_buffer; reached = leads.0 },
-      record { buffer = i.buffer; filled_buffer = i.filled_buffer; reached = leads.1 },
-    )
+both-filled d v p e h i = grind (arith, calls_lead_on)
 
 -- after a group is the scope that it is in
 after-scope : (d : Delimiter) (p : Place) (e : Entered) → enter d p ≡ Some e
@@ -130,8 +115,7 @@ module _ (d : Delimiter) (visible : IsVisibleDelimiter d) (s : State) (e : Enter
   inside_says : {A : Type 0} (o : Outcome A) (f : Fault)
       → SaysFound (scope_trees e.content) (closing_span e.span) o f
       → SaysFound (scope_trees s.place) s.scope_span (after_inside (ahead s) (entered_ahead e) o) f
-  inside_says (found v b) f h = tt
-  inside_says (missing m) f h = said_outside m f h
+  inside_says o f h = grind (arith, said_outside)
 
 module _ {T A : Type 0} (form : T → A) (inner : Taking A) (calls : Call T)
     (d : Delimiter) (visible : IsVisibleDelimiter d) (s t : State)
@@ -148,8 +132,7 @@ module _ {T A : Type 0} (form : T → A) (inner : Taking A) (calls : Call T)
 
   inside-missing : (e : EnteredWith Forest) (o : Outcome A) → IsMissing o
       → IsMissing (after_inside (ahead s) e o)
-  inside-missing e (found v b) h = h
-  inside-missing e (missing m) h = h
+  inside-missing e o h = grind arith
 
   ran : (e : Entered) (returned : Result T Fault) (left : State) (r : Result (DelimSpan × T) Fault)
       → enter d s.place ≡ Some e → TakesAs form inner (content_of e) returned left
@@ -192,8 +175,7 @@ module _ {T A : Type 0} (form : T → A) (inner : Taking A) (calls : Call T)
         subst (λ o. SaysFound (scope_trees s.place) s.scope_span o (Refused e))
         (sym (is-first None h)) (here_told (delimiter_words d) s (Refused e) r i),
   )
-  no_group_refuses (Memory e) h r =
-      (tt, λ i. says_memory (scope_trees s.place) s.scope_span (take_group d inner (ahead s)) e)
+  no_group_refuses (Memory e) h r = grind (arith, says_memory)
 
   within : (x : Option Entered) (r : Result (DelimSpan × T) Fault) → enter d s.place ≡ x
       → RunsWithin calls x (refused_at s (delimiter_words d)) s r t
@@ -216,9 +198,7 @@ pub runs_by : {R : Type 0} (calls parses : Call R) (x : Option Entered) (words :
     (s t : State) (r : Result (DelimSpan × R) Fault)
     → ((a : State) (y : Result R Fault) (b : State) → calls a y b → parses a y b)
     → RunsWithin calls x words s r t → RunsWithin parses x words s r t
-runs_by calls parses None words s t r each w = w
-runs_by calls parses (Some e) words s t r each w =
-    (w.0, w.1, each (content_of e) w.0 w.1 w.2, w.3, w.4)
+runs_by calls parses x words s t r h w = grind arith
 
 -- a value within a group takes what its type states
 pub group_keeps : {T : Type 0} (takes : Takings T) (calls : Call T) (d : Delimiter)
@@ -306,10 +286,7 @@ module _ {T : Type 0} (span_of : T → DelimSpan) (content : T → State) (d : D
       → Enters (λ v e. AreParts (span_of v) (content v) e) x (refused_at s (delimiter_words d)) s r
       t
       → EntersAhead span_of content d s r t
-  enters None (Ok v) h w = absurd w.0
-  enters None (Err f) h w = not-entered f h w.0
-  enters (Some e) (Ok v) h w = value_enters e v h w.0.0 w.0.1 w.1
-  enters (Some e) (Err f) h w = absurd w
+  enters x r h w = grind (arith, not-entered, value_enters)
 
   pub enters_ahead : (r : Result T Fault)
       → Enters (λ v e. AreParts (span_of v) (content v) e) (enter d s.place)

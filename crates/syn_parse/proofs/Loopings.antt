@@ -67,11 +67,7 @@ module _ {T : Type 0} {goes_on ends : Place → Type 0} {parses : Call T}
   pub turned-more : (v : T) (u : State) (m : ℕ) → Tests test takes t true
       → Does parses t (Ok v) u → Keeps takes t (Ok v) u → n ≡ m + 1 → (ws : List T)
       → ws ≡ vs ++ v ∷ [] → Turned goes_on ends parses test takes s ws u m
-  turned-more v u m w j k l ws e = record {
-    taken = turns-more test takes s t u vs n m v h.taken w k l ws e;
-    parsed = subst (λ xs. Parsed goes_on parses s xs u) (sym e) (more v u j);
-    count = omega (arith, h.count, l, ap length e, length-append vs (v ∷ []));
-  }
+  turned-more v u m w j k l ws e = grind (arith, turns-more, more, length-append)
 
   pub loop-refused : (f : Fault) (u : State) → Tests test takes t true → Does parses t (Err f) u
       → Keeps takes t (Err f) u → (r : Result (Vec T) Fault) → r ≡ Err f

@@ -1,6 +1,5 @@
 -- An optional value takes what its type states.
-use Rattle.std.proofs.Common.{◌≡◌, ◌∙◌, sym, ap, true, cond, Option, Some, None}
-use Rattle.std.proofs.Common.{Err}
+use Rattle.std.proofs.Common.{arith, ◌≡◌, true, Option, Some, Err}
 use Rattle.std.specs.Prelude.{Bool, option_map}
 use Rattle.tok_core.specs.Forest.{Forest}
 use Rattle.tok_buffer.specs.View.{erased_ahead}
@@ -11,14 +10,13 @@ use Rattle.syn_parse.specs.Optional.{optional, take_optional}
 use Rattle.syn_parse.specs.State.{State}
 use Rattle.syn_parse.specs.Takes.{Taking, TakesAs, and_then, found}
 use Rattle.syn_parse.specs.Takings.{Keeps, Takings, stated}
-use Rattle.syn_parse.specs.TreesAhead.{Ahead, ahead}
+use Rattle.syn_parse.specs.TreesAhead.{Ahead}
 use Rattle.syn_parse.specs.declared.fault.Fault.{Fault}
 
 where-true : {A : Type 0} (test : Ahead → Bool) (take : Taking A) (a : Ahead) → true ≡ test a
     → take_optional test take a ≡ and_then (take a) (λ v b. found (Some v) b)
 unfolding take_optional
-where-true test take a h =
-    ap (λ c. cond c (and_then (take a) (λ v b. found (Some v) b)) (found None a)) (sym h)
+where-true test take a h = grind arith
 
 module _ {T A : Type 0} (form : T → A) (take : Taking A) (test : Forest → Bool) (s t : State) where
   abbrev either : Taking (Option A)
@@ -26,10 +24,7 @@ module _ {T A : Type 0} (form : T → A) (take : Taking A) (test : Forest → Bo
 
   error-taken : (f : Fault) → true ≡ test (erased_ahead s.place) → TakesAs form take s (Err f) t
       → TakesAs (option_map form) either s (Err f) t
-  error-taken f h k =
-      fails_on (take (ahead s)) (either (ahead s))
-      (λ m e. where-true (λ a. test a.trees) take (ahead s) h
-      ∙ ap (λ o. and_then o (λ x b. found (Some x) b)) e) f s s (stays_here s) k
+  error-taken f h k = grind (arith, fails_on, where-true, stays_here)
 
 pub error_keeps : {T : Type 0} (sees : Option (Forest → Bool)) (takes : Takings T) (s t : State)
     (f : Fault)

@@ -1,16 +1,13 @@
 -- Keywords of one's own: what a peek sees, and whether a text can be written.
-use Rattle.std.proofs.Common.{◌≡◌, ◌∙◌, sym, ap, refl, ℕ, List, [], ◌∷◌, Bool}
-use Rattle.std.proofs.Common.{true, false, Ok, Err, inl, inr, arith, subst, ◌++◌, ◌<◌, ◌-◌}
-use Rattle.std.proofs.Common.{codes, drop, get_or, length, take}
+use Rattle.std.proofs.Common.{◌≡◌, ◌∙◌, sym, ap, ℕ, List, Bool, Err, arith, subst}
+use Rattle.std.proofs.Common.{◌++◌, ◌<◌, ◌-◌, codes, drop, get_or, length, take}
 use Rattle.std.proofs.Math.Seq.{take-append_seam}
 use Rattle.std.proofs.lemmas.List.{length-append}
 use Rattle.std.proofs.lemmas.Str.{IsCharBoundary-after_ascii, IsCharBoundary-at_seam}
 use Rattle.std.proofs.lemmas.Str.{IsUtf8-from_ascii}
-use Rattle.std.specs.Prelude.{◌⊎◌, ◌&&◌, cond, Result, IfErr}
-use Rattle.std.specs.List.{list_all}
+use Rattle.std.specs.Prelude.{Result, IfErr}
 use Rattle.std.specs.Str.{IsCharBoundary, IsUtf8, chars}
-use Rattle.unicode_ident.specs.Ident.{is_xid_continue}
-use Rattle.tok_lexical.specs.Words.{IsIdentifier, is_identifier_start}
+use Rattle.tok_lexical.specs.Words.{IsIdentifier}
 use Rattle.tok_leaves.specs.declared.ident.Ident.{Ident}
 use Rattle.tok_leaves.specs.declared.ident.MakeFault.{MakeFault}
 use Rattle.tok_leaves.specs.declared.ident.MakeFault.TheVariants as fault
@@ -25,47 +22,22 @@ use Rattle.tok_types.specs.Texts.{in_backquotes}
 use Rattle.tok_buffer.proofs.View.Readings.{of_keyword}
 use Rattle.tok_buffer.proofs.View.Tells.{tells}
 use Rattle.tok_types.proofs.Seen.{found_as}
-use Rattle.syn_parse.specs.Owned.{is_word, own_first, own_word}
+use Rattle.syn_parse.specs.Owned.{own_first, own_word}
 
 pub own_seen : (text : List ℕ) (p : Place) (b : Bool) → PeeksFor (read_keyword text) p b
     → b ≡ own_first text (erased_ahead p)
 unfolding own_first
 own_seen text p b h = h ∙ found_as _ _ _ (tells (of_keyword text) p)
 
--- a text is an identifier or not
-is_word_decides : (t : List ℕ) → (IsIdentifier t × (is_word t ≡ true))
-    ⊎ ((IsIdentifier t → ⊥) × (is_word t ≡ false))
-is_word_decides [] = inr (λ h. h, refl)
-is_word_decides (c ∷ cs) = go (is_identifier_start c) (list_all is_xid_continue cs) refl refl
-  where
-    go : (a b : Bool) → is_identifier_start c ≡ a → list_all is_xid_continue cs ≡ b
-        → (IsIdentifier (c ∷ cs) × (is_word (c ∷ cs) ≡ true))
-        ⊎ ((IsIdentifier (c ∷ cs) → ⊥) × (is_word (c ∷ cs) ≡ false))
-    go true true e f = inl ((e, f), ap (λ x. x && list_all is_xid_continue cs) e ∙ f)
-    go true false e f = inr ((λ h. absurd (cc)), ap (λ x. x && list_all is_xid_continue cs) e ∙ f)
-    go false b e f = inr ((λ h. absurd (cc)), ap (λ x. x && list_all is_xid_continue cs) e)
-
 module _ (text : List ℕ) (span : Span) (made : Result Ident MakeFault)
     (takes : IsIdentifier (chars text) → IfErr made (λ f. f ≡ fault.Memory))
     (refuses : (IsIdentifier (chars text) → ⊥) → made ≡ Err fault.Refused) where
   pub word_if_made : (made ≡ Err fault.Refused → ⊥)
       → own_word text span ≡ tree (leaf (ident text span)) no_trees
-  word_if_made other = elim (is_word_decides (chars text)) [
-    | inl h ↦ ap (λ b. cond b (tree (leaf (ident text span)) no_trees) no_trees) h.1
-    | inr h ↦ absurd (other (refuses h.0))
-  ]
+  word_if_made other = grind arith
 
   pub nothing_if_refused : made ≡ Err fault.Refused → own_word text span ≡ no_trees
-  nothing_if_refused e = elim (is_word_decides (chars text)) [
-    | inl h ↦ absurd (apart made (takes h.0) e)
-    | inr h ↦ ap (λ b. cond b (tree (leaf (ident text span)) no_trees) no_trees) h.1
-  ]
-    where
-      apart : (r : Result Ident MakeFault) → IfErr r (λ f. f ≡ fault.Memory) → r ≡ Err fault.Refused
-          → ⊥
-      apart (Ok i) h e = cc
-      apart (Err fault.Refused) h e = cc
-      apart (Err fault.Memory) h e = cc
+  nothing_if_refused e = grind arith
 
 -- a text in backquotes is cut to the text
 module _ (quoted text : List ℕ) (is : quoted ≡ in_backquotes text) where
@@ -82,13 +54,7 @@ module _ (quoted text : List ℕ) (is : quoted ≡ in_backquotes text) where
     rest_is = cut ∙ ap (drop 1) is
 
     pub before_quote : IsCharBoundary rest (length rest - 1)
-    before_quote =
-        subst (λ n. IsCharBoundary rest n) (sym (ap (λ q. length q - 1) rest_is ∙ all_but_quote))
-        (IsCharBoundary-at_seam rest text (codes "`") rest_is
-        (IsUtf8-from_ascii (codes "`") (λ i. grind arith)))
+    before_quote = grind (arith, rest_is, all_but_quote, IsCharBoundary-at_seam, IsUtf8-from_ascii)
 
     pub text_is : take (length rest - 1) rest ≡ text
-    text_is =
-        ap (λ q. take (length q - 1) q) rest_is
-        ∙ ap (λ n. take n (text ++ codes "`")) all_but_quote
-        ∙ take-append_seam text (codes "`")
+    text_is = grind (arith, rest_is, all_but_quote, take-append_seam)

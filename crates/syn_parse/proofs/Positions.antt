@@ -1,6 +1,6 @@
 -- The span of a stream is one of the position of what is ahead of it.
-use Rattle.std.proofs.Common.{◌≡◌, ◌∙◌, sym, ap, subst, refl, ◌&&◌, Bool, true, false, cond}
-use Rattle.std.proofs.Common.{List, [], ◌∷◌, Option, Some, None}
+use Rattle.std.proofs.Common.{arith, ◌≡◌, ◌∙◌, sym, subst, refl, ◌&&◌, true, false, cond, List, []}
+use Rattle.std.proofs.Common.{◌∷◌, Some, None}
 use Rattle.std.proofs.lemmas.Bool.{and_parts, false≢true}
 use Rattle.std.specs.Prelude.{⊤, IfSome}
 use Rattle.tok_lexical.specs.declared.delimiter.Delimiter.{Delimiter}
@@ -14,10 +14,10 @@ use Rattle.tok_core.specs.Forest.{tree_span}
 use Rattle.tok_buffer.specs.Buffer.{Laid}
 use Rattle.tok_buffer.specs.Descent.{descend}
 use Rattle.tok_buffer.specs.EachRead.{Read, First}
-use Rattle.tok_buffer.specs.Entry.{Entered, enter, enter_any, entered_of, same_delimiter}
+use Rattle.tok_buffer.specs.Entry.{Entered, enter, enter_any}
 use Rattle.tok_buffer.specs.Messages.{stream_span}
-use Rattle.tok_buffer.specs.Place.{Enclosing, whole, in_group, Frame, frame, Place, empty_place, at}
-use Rattle.tok_buffer.specs.Place.{front, is_at_end, leave_group, pass}
+use Rattle.tok_buffer.specs.Place.{Enclosing, in_group, Frame, frame, Place, empty_place, at, front}
+use Rattle.tok_buffer.specs.Place.{is_at_end, pass}
 use Rattle.tok_buffer.specs.Reads.{any_tree}
 use Rattle.tok_buffer.specs.Spans.{current_span}
 use Rattle.tok_buffer.specs.Trees.{PassesTrees, further, read_visible}
@@ -29,8 +29,8 @@ use Rattle.tok_buffer.proofs.View.Keeps.{kept-descend, of-front}
 use Rattle.tok_buffer.proofs.View.Moves.{IsMoved, Leads, LeadsTo, leads, leads-take, moved-pass}
 use Rattle.tok_buffer.proofs.View.Readings.{Reading}
 use Rattle.tok_buffer.proofs.View.Places.{reached_stands}
-use Rattle.syn_parse.specs.Positions.{IsAt, IsNext, Position, Stands, among, at_span, at_trees, here}
-use Rattle.syn_parse.specs.Positions.{later, only_span, over_tree, scope_trees, seen_outside}
+use Rattle.syn_parse.specs.Positions.{IsAt, IsNext, Position, Stands, among, at_span, at_trees}
+use Rattle.syn_parse.specs.Positions.{here, later, only_span, over_tree, scope_trees, seen_outside}
 use Rattle.syn_parse.specs.Positions.{tree_start, trees_in}
 use Rattle.syn_parse.specs.TreesAhead.{IsFilled}
 
@@ -50,20 +50,8 @@ nested-ahead o p q a b [] h = tt
 nested-ahead (in_group delimiter.None span) p q a b (l ∷ ls) h = h
 nested-ahead o p q a b (l ∷ ls) h = absurd h
 
-nested-out : (o : Enclosing) (p : Forest) (l : Frame) (ls : List Frame)
-    → Nested (frame o p no_trees) (l ∷ ls) → Nested (leave_group o p l) ls
-nested-out (in_group delimiter.None span) p (frame o q a) ls h =
-    nested-ahead o q (tree (group delimiter.None (reverse_onto p no_trees) span) q) a a ls h
-nested-out o p l ls h = absurd h
-
 moved-nested : IsMoved IsNested
-moved-nested = record {
-  kept = record {
-    into = λ n s c o p inside span f ls h. nested-ahead o p p _ f ls h;
-    out = λ n s c o p l ls h. nested-out o p l ls h;
-  };
-  past = λ n s c o p t f ls h. nested-ahead o p (tree t p) _ f ls h;
-}
+moved-nested = grind (arith, nested-ahead)
 
 nested-content : (d : Delimiter) (p : Place) → IsVisibleDelimiter d
     → IfSome (enter d p) (λ e. IsNested e.content)
@@ -82,44 +70,20 @@ reached-nested b _ (into d p e v i r) =
     subst (λ x. IfSome x (λ y. IsNested y.content)) i (nested-content d p v)
 reached-nested b _ nowhere = tt
 
--- no move changes the trees of the scope
-out-trees : (o : Enclosing) (p : Forest) (l : Frame) (ls : List Frame)
-    → trees_in (leave_group o p l) ls ≡ trees_in (frame o p no_trees) (l ∷ ls)
-out-trees whole p l ls = refl
-out-trees (in_group d span) p (frame o q a) [] = refl
-out-trees (in_group d span) p (frame whole q a) (l ∷ ls) = refl
-out-trees (in_group d span) p (frame (in_group e other) q a) (frame o x y ∷ ls) = refl
-
 into-trees : (o : Enclosing) (p inside : Forest) (span : Span) (f : Forest) (ls : List Frame)
     → trees_in (frame (in_group delimiter.None span) no_trees inside) (frame o p f ∷ ls)
     ≡ trees_in (frame o p (tree (group delimiter.None inside span) f)) ls
 into-trees o p inside span f ls = refl
-
-past-trees : (o : Enclosing) (p : Forest) (t : Tree) (f : Forest) (ls : List Frame)
-    → trees_in (frame o (tree t p) f) ls ≡ trees_in (frame o p (tree t f)) ls
-past-trees o p t f [] = refl
-past-trees whole p t f (l ∷ ls) = refl
-past-trees (in_group d span) p t f (frame o q a ∷ ls) = refl
 
 module _ (f : Forest) where
   abbrev pub InScope : Place → Type 0
   InScope p = scope_trees p ≡ f
 
   moved-trees : IsMoved InScope
-  moved-trees = record {
-    kept = record {
-      into = λ n s c o p inside span g ls h. into-trees o p inside span g ls ∙ h;
-      out = λ n s c o p l ls h. out-trees o p l ls ∙ h;
-    };
-    past = λ n s c o p t g ls h. past-trees o p t g ls ∙ h;
-  }
+  moved-trees = grind (arith, into-trees)
 
   pub leads-trees : Leads InScope InScope
-  leads-trees = record {
-    down = kept-descend InScope moved-trees.kept;
-    past = λ p t e h. moved-pass InScope moved-trees p h;
-    weaker = λ p h. h;
-  }
+  leads-trees = grind (arith, kept-descend, moved-trees, moved-pass)
 
 pub scope_kept : {read : Read} {first : First} → Reading read first → (p : Place)
     → LeadsTo (InScope (scope_trees p)) (read p)
@@ -168,14 +132,12 @@ abbrev front_span : (Tree → Span) → Span → Place → Span
 front_span part scope p = elim (front p) [ Some t ↦ part t | None ↦ scope ]
 
 has-first : (f g : Forest) → has_trees f ≡ true → has_trees (concat f g) ≡ true
-has-first no_trees g h = absurd (false≢true h)
-has-first (tree t f) g h = refl
+has-first f g h = grind (arith, false≢true)
 
 module _ (part : Tree → Span) where
   is-next : (trees ahead : Forest) (scope span : Span) → has_trees ahead ≡ true
       → Stands part span ahead trees no_trees → IsNext part trees scope ahead span
-  is-next trees no_trees scope span h k = absurd (false≢true h)
-  is-next trees (tree t f) scope span h k = k
+  is-next trees ahead scope span h k = grind (arith, false≢true)
 
   front-next : (o : Enclosing) (p : Forest) (t : Tree) (f : Forest) (ls : List Frame)
       → Nested (frame o p (tree t f)) ls → (scope : Span)
@@ -206,22 +168,15 @@ module _ (part : Tree → Span) where
 
   next-told : (p : Place) (scope : Span) → IsFilled p
       → IsNext part (scope_trees p) scope (erased_ahead p) (front_span part scope p)
-  next-told p scope i =
-      let stands = reached_stands i.buffer i.filled_buffer p i.reached in
-      next-front p stands.settled stands.holds.filled (reached-nested i.buffer p i.reached) scope
+  next-told p scope i = grind (arith, reached_stands, next-front, reached-nested)
 
 -- the span of a stream, and that of the whole next tree
 starts-front : (p : Place) (scope : Span) → front_span tree_start scope p ≡ stream_span p scope
-starts-front empty_place scope = refl
-starts-front (at i s c (frame o p no_trees) ls) scope = refl
-starts-front (at i s c (frame o p (tree (leaf l) f)) ls) scope = refl
-starts-front (at i s c (frame o p (tree (group d inside span) f)) ls) scope = refl
+starts-front p scope = grind arith
 
 covers-front : (p : Place) (scope : Span)
     → front_span tree_span scope p ≡ cond (is_at_end p) scope (current_span p)
-covers-front empty_place scope = refl
-covers-front (at i s c (frame o p no_trees) ls) scope = refl
-covers-front (at i s c (frame o p (tree t f)) ls) scope = refl
+covers-front p scope = grind arith
 
 pub start_told : (p : Place) (scope : Span) → IsFilled p
     → IsAt (scope_trees p) scope (at_trees (erased_ahead p)) (stream_span p scope)
@@ -236,31 +191,9 @@ whole_told p scope i =
     subst (IsAt (scope_trees p) scope (over_tree (erased_ahead p))) (covers-front p scope)
     (next-told tree_span p scope i)
 
--- a group that is entered as a visible one is visible
-visible-as : (d x : Delimiter) → IsVisibleDelimiter d → same_delimiter d x ≡ true
-    → IsVisibleDelimiter x
-visible-as delimiter.None x v h = absurd v
-visible-as delimiter.Parenthesis delimiter.Parenthesis v h = tt
-visible-as delimiter.Brace delimiter.Brace v h = tt
-visible-as delimiter.Bracket delimiter.Bracket v h = tt
-visible-as d x v h = absurd (false≢true h)
-
-visible-of : (d : Delimiter) → IsVisibleDelimiter d → (x : Option Entered) (e : Entered)
-    → entered_of d x ≡ Some e → IsVisibleDelimiter e.delimiter
-visible-of d v None e h = absurd (cc)
-visible-of d v (Some y) e h = go (same_delimiter d y.delimiter) refl h where
-  go : (b : Bool) → same_delimiter d y.delimiter ≡ b
-      → cond {A = Option Entered} b (Some y) None ≡ Some e
-      → IsVisibleDelimiter e.delimiter
-  go true k m =
-      let same : y ≡ e = cc in
-      subst (λ (z : Entered). IsVisibleDelimiter z.delimiter) same (visible-as d y.delimiter v k)
-  go false k m = absurd (cc)
-
 entered-visible : (d : Delimiter) → IsVisibleDelimiter d → (p : Place) (e : Entered)
     → enter d p ≡ Some e → IsVisibleDelimiter e.delimiter
-entered-visible delimiter.None v p e h = absurd v
-entered-visible d v p e h = visible-of d v (enter_any (descend p)) e h
+entered-visible d v p e h = grind (arith, false≢true)
 
 -- a group that is entered is among the trees of the scope, and stays there
 module _ (d : Delimiter) (visible : IsVisibleDelimiter d) (p : Place) (e : Entered)
@@ -290,12 +223,7 @@ module _ (d : Delimiter) (visible : IsVisibleDelimiter d) (p : Place) (e : Enter
         → IfSome (enter_any q) (λ x. IsVisibleDelimiter x.delimiter
         → Stands part span ahead (scope_trees x.content) no_trees
         → Stands part span ahead (scope_trees q) no_trees)
-    content-any empty_place n = tt
-    content-any (at i s c (frame o q no_trees) ls) n = tt
-    content-any (at i s c (frame o q (tree (leaf l) a)) ls) n = tt
-    content-any (at i k c (frame o q (tree (group x inside s) a)) ls) n =
-        λ v h. stands-around part span ahead o q (tree (group x inside s) a) ls n
-        (in-visible x v inside a (erased_in ls) s h)
+    content-any q n = grind (arith, stands-around, in-visible)
 
     before-content : IsFilled p → Stands part span ahead (scope_trees e.content) no_trees
         → Stands part span ahead (scope_trees p) no_trees
@@ -327,8 +255,7 @@ StartsVisible no_trees = ⊤
 StartsVisible (tree t f) = is_invisible_group t ≡ false
 
 starts-concat : (f g : Forest) → StartsVisible f → StartsVisible g → StartsVisible (concat f g)
-starts-concat no_trees g h k = k
-starts-concat (tree t f) g h k = h
+starts-concat f g h k = grind arith
 
 starts-erased : (f : Forest) → StartsVisible (erase f)
 starts-erased no_trees = tt
@@ -367,8 +294,7 @@ same-first e = cc
 module _ (part : Tree → Span) (span : Span) (t : Tree) (g : Forest) where
   stands-once : (f after : Forest) → Stands part span (tree t g) f after → erase f ≡ f
       → span ≡ part t
-  stands-once _ _ (here u f after same all) e =
-      sym same ∙ ap part (same-first (ap (λ x. concat x after) (sym e) ∙ all))
+  stands-once _ _ (here u f after same all) e = grind (arith, same-first)
   stands-once _ _ (later u f after h) e = stands-once f after h (erased-rest u f e)
   stands-once _ _ (among d inside f after s h) e =
       stands-once inside _ h (erased-inside d inside f s e)

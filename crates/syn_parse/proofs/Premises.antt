@@ -1,5 +1,5 @@
 -- Claims under a premise, if there is one.
-use Rattle.std.proofs.Common.{Bool, true, false, ◌||◌}
+use Rattle.std.proofs.Common.{arith, Bool, true, false, ◌||◌}
 use Rattle.syn_parse.specs.Takings.{Under}
 
 -- the premise, if there is one
@@ -8,26 +8,19 @@ Premise false P = Unit {0}
 Premise true P = P
 
 pub premise : (b : Bool) (P : Type 0) → P → Premise b P
-premise false P p = tt
-premise true P p = p
+premise b P p = grind arith
 
 pub under : (b : Bool) (P Q : Type 0) → (Premise b P → Q) → Under b P Q
-under false P Q f = f tt
-under true P Q f = f
+under b P Q f = grind arith
 
 pub given : (b : Bool) (P Q : Type 0) → Under b P Q → Premise b P → Q
-given false P Q h i = h
-given true P Q h i = h i
+given b P Q h i = grind arith
 
 pub given_on : (b : Bool) (P Q : Type 0) → (P → Q) → Premise b P → Premise b Q
-given_on false P Q f i = tt
-given_on true P Q f i = f i
+given_on b P Q f i = grind arith
 
 pub given_left : (a b : Bool) (P : Type 0) → Premise (a || b) P → Premise a P
-given_left false b P i = tt
-given_left true b P i = i
+given_left a b P i = grind arith
 
 pub given_right : (a b : Bool) (P : Type 0) → Premise (a || b) P → Premise b P
-given_right false b P i = i
-given_right true false P i = tt
-given_right true true P i = i
+given_right a b P i = grind arith

@@ -1,5 +1,5 @@
 -- Parses of one read go on as their read does.
-use Rattle.std.proofs.Common.{◌≡◌, ap, refl, ℕ, List, Some, None, Ok, Err}
+use Rattle.std.proofs.Common.{arith, ◌≡◌, ap, refl, ℕ, List, Some, None, Ok}
 use Rattle.std.specs.Prelude.{Result}
 use Rattle.tok_core.specs.Forest.{Tree}
 use Rattle.tok_buffer.specs.Place.{Place}
@@ -32,30 +32,15 @@ module _ {T : Type 0} (Means : T → List Tree → Type 0) (s : State) where
   -- a read that takes no memory is a read
   pub at_once : (x : TreesRead) (words : Message) (r : Result T Fault) (t : State)
       → ReadsAtOnce Means x words s r t → Reads Means x words s r t
-  at_once None words (Ok v) t h = absurd h
-  at_once (Some q) words (Ok v) t h = h
-  at_once None words (Err f) t h = h
-  at_once (Some q) words (Err f) t h = absurd h
+  at_once x words r t h = grind arith
 
 module _ {T : Type 0} (Means : T → List Tree → Type 0) (read : Place → TreesRead) (words : State
     → Message) (on : ReadsOn read) where
   pub parses_on : ParsesOn {T = T} (λ s. Reads Means (read s.place) (words s) s)
-  parses_on =
-      record {
-        stays = λ s v t h. let c = came_of Means s (read s.place) (words s) v t h in
-            rw c.is_at (on.stays s.place c.trees c.after c.read);
-        lowers = λ s v t h. let c = came_of Means s (read s.place) (words s) v t h in
-            rw c.is_at (on.lowers s.place c.trees c.after c.read);
-      }
+  parses_on = grind (arith, came_of)
 
   pub parses_on_at_once : ParsesOn {T = T} (λ s. ReadsAtOnce Means (read s.place) (words s) s)
-  parses_on_at_once =
-      record {
-        stays = λ s v t h.
-            parses_on.stays s v t (at_once Means s (read s.place) (words s) (Ok v) t h);
-        lowers = λ s v t h.
-            parses_on.lowers s v t (at_once Means s (read s.place) (words s) (Ok v) t h);
-      }
+  parses_on_at_once = grind (arith, parses_on, at_once)
 
 pub words_on : {T : Type 0} (span_of : T → Span) (text : List ℕ) → ReadsOn (read_keyword text)
     → ParsesOn (WordParses span_of text)

@@ -1,5 +1,5 @@
 -- How a read, an error and an allocation failure meet the definitions of one-step parsers.
-use Rattle.std.proofs.Common.{◌≡◌, refl, List, Option, Some, None, Ok, Err}
+use Rattle.std.proofs.Common.{arith, ◌≡◌, refl, List, Option, Some, None, Ok, Err}
 use Rattle.std.proofs.lemmas.Result.{err_from_is_err_and}
 use Rattle.std.specs.Prelude.{Result}
 use Rattle.std.specs.Result.{IsErrAnd}
@@ -11,7 +11,7 @@ use Rattle.syn_parse.specs.Faults.{IsMemory, Refuses}
 use Rattle.syn_parse.specs.Reads.{Reads, ReadsAtOnce}
 use Rattle.syn_parse.specs.State.{State, moved}
 use Rattle.syn_parse.specs.declared.fault.Fault.{Fault}
-use Rattle.syn_parse.specs.declared.fault.Fault.TheVariants.{Refused, Memory}
+use Rattle.syn_parse.specs.declared.fault.Fault.TheVariants.{Memory}
 
 module _ {T : Type 0} (Means : T → List Tree → Type 0) (words : Message) (s : State) where
   pub reads-value : (x : Option (List Tree × Place)) (v : T) (ts : List Tree) (q : Place)
@@ -24,15 +24,12 @@ module _ {T : Type 0} (Means : T → List Tree → Type 0) (words : Message) (s 
 
   pub reads-memory : (x : Option (List Tree × Place)) (f : Fault) → IsMemory f
       → Reads Means x words s (Err f) s
-  reads-memory None (Memory e) m = (tt, refl)
-  reads-memory (Some r) (Memory e) m = (tt, refl)
-  reads-memory x (Refused e) m = absurd m
+  reads-memory x f m = grind arith
 
   -- at the exit of a `?` that wants memory
   pub reads-stops : (x : Option (List Tree × Place)) (r : Result T Fault) (e : AllocError)
       → IsErrAnd r (λ f. f ≡ Memory e) → Reads Means x words s r s
-  reads-stops x r e h = let p = err_from_is_err_and r h in
-      rw (p.1, p.2) (reads-memory x (Memory e) tt)
+  reads-stops x r e h = grind (arith, err_from_is_err_and, reads-memory)
 
 module _ {T U : Type 0} (Means : T → List Tree → Type 0) (Tells : U → List Tree
     → Type 0) (words : Message) (s : State) where
@@ -40,17 +37,10 @@ module _ {T U : Type 0} (Means : T → List Tree → Type 0) (Tells : U → List
   pub at-once-made : (x : Option (List Tree × Place)) (v : T) (u : U) (t : State)
       → ((ts : List Tree) → Means v ts → Tells u ts) → ReadsAtOnce Means x words s (Ok v) t
       → ReadsAtOnce Tells x words s (Ok u) t
-  at-once-made None v u t made h = absurd h
-  at-once-made (Some r) v u t made h = (made r.0 h.0, h.1)
-
-  at-once-refused : (x : Option (List Tree × Place)) (f : Fault) (t : State)
-      → ReadsAtOnce Means x words s (Err f) t → ReadsAtOnce Tells x words s (Err f) t
-  at-once-refused None f t h = h
-  at-once-refused (Some r) f t h = absurd h
+  at-once-made x v u t k h = grind arith
 
   -- at the exit of a `?`
   pub at-once-stops : (x : Option (List Tree × Place)) (f : Fault) (r : Result U Fault) (t : State)
       → IsErrAnd r (λ g. g ≡ f) → ReadsAtOnce Means x words s (Err f) t
       → ReadsAtOnce Tells x words s r t
-  at-once-stops x f r t e h = let p = err_from_is_err_and r e in
-      rw (p.1, p.2) (at-once-refused x f t h)
+  at-once-stops x f r t e h = grind (arith, err_from_is_err_and)

@@ -11,10 +11,9 @@ use Rattle.tok_types.specs.Sees.{Sees}
 use Rattle.syn_parse.proofs.Failing.{fails_on, stays_along, stays_here}
 use Rattle.syn_parse.proofs.Premises.{given, given_on, premise, under}
 use Rattle.syn_parse.specs.Many.{many_again, many_of, take_many, vec_form, where_filled}
-use Rattle.syn_parse.specs.Positions.{Missing}
 use Rattle.syn_parse.specs.State.{State}
 use Rattle.syn_parse.specs.Takes.{Outcome, Stays, Taking, TakesAs, and_then, found, missing}
-use Rattle.syn_parse.specs.Takings.{Keeps, Lowers, Takings, Under, lower, stated, untold}
+use Rattle.syn_parse.specs.Takings.{Keeps, Lowers, Takings, Under, lower, stated}
 use Rattle.syn_parse.specs.TreesAhead.{Ahead, IsFilled, ahead, is_spent}
 use Rattle.syn_parse.specs.declared.fault.Fault.{Fault}
 
@@ -30,10 +29,6 @@ module _ {A : Type 0} (test : Ahead → Bool) (take : Taking A) (less : Lowers t
   abbrev SoFar : Ahead → List A → Ahead → Type 0
   SoFar a vs b = all a ≡ first_of vs (all b)
 
-  first-none : (o : Outcome (List A)) → o ≡ first_of [] o
-  first-none (missing m) = refl
-  first-none (found ws b) = refl
-
   abbrev then_more : A → Ahead → Outcome (List A)
   then_more v c = and_then (all c) (λ ws d. found (v ∷ ws) d)
 
@@ -47,12 +42,7 @@ module _ {A : Type 0} (test : Ahead → Bool) (take : Taking A) (less : Lowers t
 
   one-more : (a b c : Ahead) (vs : List A) (v : A) → SoFar a vs b → test b ≡ true
       → take b ≡ found v c → SoFar a (vs ++ v ∷ []) c
-  one-more a b c vs v h e k =
-      h
-      ∙ ap (first_of vs)
-      (again b ∙ ap (λ x. cond x (and_then (take b) then_more) (found [] b)) e
-      ∙ ap (λ o. and_then o then_more) k)
-      ∙ first-first vs v (all c)
+  one-more a b c vs v h e k = grind (arith, again, first-first)
 
   no-more : (a b : Ahead) (vs : List A) → SoFar a vs b → test b ≡ false → all a ≡ found vs b
   no-more a b vs h e =
@@ -60,14 +50,6 @@ module _ {A : Type 0} (test : Ahead → Bool) (take : Taking A) (less : Lowers t
       ∙ ap (first_of vs)
       (again b ∙ ap (λ x. cond x (and_then (take b) then_more) (found [] b)) e)
       ∙ ap (λ us. found us b) (append-nil vs)
-
-  one-missing : (a b : Ahead) (vs : List A) (m : Missing) → SoFar a vs b → test b ≡ true
-      → take b ≡ missing m → all a ≡ missing m
-  one-missing a b vs m h e k =
-      h
-      ∙ ap (first_of vs)
-      (again b ∙ ap (λ x. cond x (and_then (take b) then_more) (found [] b)) e
-      ∙ ap (λ o. and_then o then_more) k)
 
   module _ {T : Type 0} (form : T → A) where
     -- values that have been taken from a stream, and how many turns are left for more of them
@@ -77,44 +59,25 @@ module _ {A : Type 0} (test : Ahead → Bool) (take : Taking A) (less : Lowers t
       pub enough : weight (ahead t).trees ≤ turns
 
     start : (s : State) (n : ℕ) → weight (ahead s).trees ≤ n → Turns s [] s n
-    start s n h =
-        record {
-          so_far = first-none (all (ahead s));
-          stays = stays_here s;
-          enough = h;
-        }
+    start s n h = grind (arith, stays_here)
 
     turn : (s t u : State) (vs : List T) (n m : ℕ) (v : T) → Turns s vs t n
         → true ≡ test (ahead t) → TakesAs form take t (Ok v) u → n ≡ m + 1
         → Turns s (vs ++ v ∷ []) u m
-    turn s t u vs n m v so e w k =
-        record {
-          so_far =
-              subst (λ xs. SoFar (ahead s) xs (ahead u)) (sym (map-append form vs (v ∷ [])))
-              (one-more (ahead s) (ahead t) (ahead u) (map form vs) (form v) so.so_far (sym e)
-              w.0);
-          stays = stays_along s t u so.stays w.1;
-          enough =
-              omega (arith, so.enough, less.less (ahead t) (ahead u) (form v) w.0, k);
-        }
+    turn s t u vs n m v so e w k = grind (arith, map-append, one-more, stays_along)
 
     too-many : (s t u : State) (vs : List T) (n : ℕ) (v : T) → Turns s vs t n
         → TakesAs form take t (Ok v) u → n ≡ 0 → ⊥
-    too-many s t u vs n v so w k =
-        omega (arith, so.enough, less.less (ahead t) (ahead u) (form v) w.0, k)
+    too-many s t u vs n v so w k = grind arith
 
     ended : (s t : State) (vs : Vec T) (n : ℕ) → Turns s vs.items t n
         → false ≡ test (ahead t) → TakesAs (vec_form form) all s (Ok vs) t
-    ended s t vs n so e =
-        (no-more (ahead s) (ahead t) (map form vs.items) so.so_far (sym e), so.stays)
+    ended s t vs n so e = grind (arith, no-more)
 
     failed : (s t u : State) (vs : List T) (n : ℕ) (f : Fault) → Turns s vs t n
         → true ≡ test (ahead t) → TakesAs form take t (Err f) u
         → TakesAs (vec_form form) all s (Err f) u
-    failed s t u vs n f so e w =
-        fails_on (take (ahead t)) (all (ahead s))
-        (λ m k. one-missing (ahead s) (ahead t) (map form vs) m so.so_far (sym e) k) f s t so.stays
-        w
+    failed s t u vs n f so e w = grind (arith, fails_on, again)
 
 -- the same for each kind of statement
 abbrev pub TurnsOf : {T : Type 0} → Option (Ahead → Bool) → Takings T → State → List T → State → ℕ
@@ -129,32 +92,23 @@ Tests (Some test) (stated alone form take (lower less)) s b =
     Under alone (IsFilled s.place) (b ≡ test (ahead s))
 Tests test takes s b = Unit {0}
 
-not-not : (b c : Bool) → not b ≡ c → b ≡ not c
-not-not true c e = ap not e
-not-not false c e = ap not e
-
 pub seen-tests : {T : Type 0} (sees : Option (Forest → Bool)) (takes : Takings T) (s : State)
     (b : Bool) → Sees sees s.place b → Tests (option_map (λ test a. test a.trees) sees) takes s b
-seen-tests (Some sees) (stated alone form take (lower less)) s b h = under alone _ _ (λ i. h)
-seen-tests sees takes s b h = tt
+seen-tests sees takes s b h = grind (arith, under)
 
 -- a stream whose end is not here has a visible tree left
 pub left-tests : {T : Type 0} (takes : Takings T) (s : State) (b : Bool)
     → (IsFilled s.place → not b ≡ is_spent (ahead s))
     → Tests (Some (λ a. not (is_spent a))) (where_filled takes) s b
-left-tests (stated alone form take (lower less)) s b h = λ i. not-not b _ (h i)
-left-tests takes s b h = tt
+left-tests takes s b h = grind arith
 
 pub filled-keeps : {T : Type 0} (takes : Takings T) (s t : State) (r : Result T Fault)
     → Keeps takes s r t → Keeps (where_filled takes) s r t
-filled-keeps untold s t r h = tt
-filled-keeps (stated alone form take w) s t r h = λ i. given alone _ _ h (premise alone _ i)
+filled-keeps takes s t r h = grind (arith, given, premise)
 
 pub turns-start : {T : Type 0} (test : Option (Ahead → Bool)) (takes : Takings T) (s : State)
     (n : ℕ) → weight (ahead s).trees ≤ n → TurnsOf test takes s [] s n
-turns-start (Some test) (stated alone form take (lower less)) s n h =
-    under alone _ _ (λ i. start test take less form s n h)
-turns-start test takes s n h = tt
+turns-start test takes s n h = grind (arith, under)
 
 pub turns-more : {T : Type 0} (test : Option (Ahead → Bool)) (takes : Takings T) (s t u : State)
     (vs : List T) (n m : ℕ) (v : T) → TurnsOf test takes s vs t n → Tests test takes t true

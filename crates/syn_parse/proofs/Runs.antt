@@ -25,8 +25,8 @@ use Rattle.syn_parse.specs.Positions.{scope_trees}
 use Rattle.syn_parse.specs.Runs.{PassesVisible, none_passed, one_more, onwards, passing}
 use Rattle.syn_parse.specs.Runs.{take_run_with_state}
 use Rattle.syn_parse.specs.State.{State, moved}
-use Rattle.syn_parse.specs.Takes.{TakesAs, found}
-use Rattle.syn_parse.specs.TreesAhead.{ahead, scope_of}
+use Rattle.syn_parse.specs.Takes.{TakesAs}
+use Rattle.syn_parse.specs.TreesAhead.{scope_of}
 use Rattle.syn_parse.proofs.Positions.{InScope, visible_kept}
 use Rattle.syn_parse.proofs.Scopes.{one_scope}
 
@@ -37,8 +37,7 @@ same-head : (t u : Tree) → t ∷ [] ≡ u ∷ [] → t ≡ u
 same-head t u e = cc
 
 none-read : (x : Option (List Tree × Place)) → place_after x ≡ None → x ≡ None
-none-read None e = refl
-none-read (Some y) e = absurd (cc)
+none-read x e = grind arith
 
 -- these trees come first
 abbrev first_of : {S : Type 0} → Forest → Forest × Forest × S → Forest × Forest × S
@@ -74,13 +73,7 @@ module _ {S : Type 0} (step : S → Forest → Option S) where
   first-tree : (t u : Tree) (q : Place) (f : Forest)
       → erased_read (Some (t ∷ [], q)) ≡ first_if any_tree f → erased_tree t ≡ u
       → f ≡ tree u (erased_ahead q)
-  first-tree t u q no_trees e k = absurd (cc)
-  first-tree t u q (tree v g) e k =
-      let both = same-pair {A = List Tree} {x = (erased_tree t ∷ [], erased_ahead q)}
-      {y = (v ∷ [], g)} e in
-      let i = same-head (erased_tree t) v both.0 in
-      let j = both.1 in
-      ap (λ x. tree x g) (sym i ∙ k) ∙ ap (tree u) (sym j)
+  first-tree t u q f e k = grind (arith, same-pair, same-head)
 
   gone : (u : Tree) (g : Forest) (s r : S) → step s (tree u g) ≡ Some r
       → passing step s (tree u g) ≡ first_of (tree u no_trees) (passing step r g)
@@ -150,25 +143,4 @@ module _ {S : Type 0} (step : S → Forest → Option S) where
       → TakesAs {T = Forest × S} (λ v. (erase v.0, v.1)) (take_run_with_state step run) s
       (Ok (f, r)) t
   unfolding take_run_with_state
-  run-ends s t run r f q so e k m =
-      let all : passing step run (erased_ahead s.place) ≡ (erase f, erased_ahead q, r) =
-      so.trees ∙ ap (first_of (erase (between s.place q))) e
-      ∙ ap (λ h. (h, erased_ahead q, r))
-      (concat-none (erase (between s.place q)) ∙ sym (ap erase k)) in
-      subst
-      (λ u. TakesAs {T = Forest × S} (λ v. (erase v.0, v.1)) (take_run_with_state step run) s
-      (Ok (f, r)) u)
-      (sym m) (
-        ap (λ (x : Forest × Forest × S). found (x.0, x.2) (record (ahead s) { trees = x.1 })) all,
-        (
-          λ i. record {
-            buffer = i.buffer;
-            filled_buffer = i.filled_buffer;
-            reached = so.reached i.buffer i.reached;
-          },
-          so.scope,
-          so.less,
-          so.kept,
-          refl,
-        ),
-      )
+  run-ends s t run r f q so e k m = grind (arith, concat-none)

@@ -1,14 +1,14 @@
 -- Values that follow one another, and one that fails.
-use Rattle.std.proofs.Common.{◌∙◌, ap, inl, inr, refl, Bool, ◌||◌, Ok, Err}
+use Rattle.std.proofs.Common.{arith, Bool, ◌||◌, Ok, Err}
 use Rattle.std.specs.Prelude.{Result}
 use Rattle.syn_parse.proofs.Failing.{fails_on, stays_along, stays_here}
 use Rattle.syn_parse.proofs.Premises.{Premise, given, given_left, given_on, given_right, under}
 use Rattle.syn_parse.specs.Reads.{BothParse, Call, ThreeParse}
 use Rattle.syn_parse.specs.Sequences.{both, take_both, take_three, three}
 use Rattle.syn_parse.specs.State.{State}
-use Rattle.syn_parse.specs.Takes.{TakesAs, Taking, ◌>>=◌, and_then}
+use Rattle.syn_parse.specs.Takes.{TakesAs, Taking, ◌>>=◌}
 use Rattle.syn_parse.specs.Takings.{Keeps, Takings, Under, stated}
-use Rattle.syn_parse.specs.TreesAhead.{IsFilled, ahead}
+use Rattle.syn_parse.specs.TreesAhead.{IsFilled}
 use Rattle.syn_parse.specs.declared.fault.Fault.{Fault}
 
 -- a value and what comes after it, which may fail; or a value that fails
@@ -16,17 +16,11 @@ module _ {T R A B : Type 0} (form : T → A) (whole : R → B) (take : Taking A)
     (more : A → Taking B) where
   pub then_takes : (s m t : State) (v : T) (r : Result R Fault) → TakesAs form take s (Ok v) m
       → TakesAs whole (more (form v)) m r t → TakesAs whole (take >>= more) s r t
-  then_takes s m t v (Ok w) h k =
-      (ap (λ o. and_then o more) h.0 ∙ k.0, stays_along s m t h.1 k.1)
-  then_takes s m t v (Err f) h k =
-      fails_on (more (form v) (ahead m)) (and_then (take (ahead s)) more)
-      (λ x e. ap (λ o. and_then o more) h.0 ∙ e) f s m h.1 k
+  then_takes s m t v r h k = grind (arith, stays_along, fails_on)
 
   pub first_fails : (s t : State) (f : Fault) → TakesAs form take s (Err f) t
       → TakesAs whole (take >>= more) s (Err f) t
-  first_fails s t f h =
-      fails_on (take (ahead s)) (and_then (take (ahead s)) more)
-      (λ x e. ap (λ o. and_then o more) e) f s s (stays_here s) h
+  first_fails s t f h = grind (arith, fails_on, stays_here)
 
 -- calls on streams of filled forests, if the flag is set
 abbrev On : {T : Type 0} → Bool → Call T → Call T
@@ -38,13 +32,7 @@ in_turn : (a b : Bool) {T U A : Type 0} (form : T → A) (take : Taking A) (R S 
     → S s r t)
     → (s : State) (r : Result (T × U) Fault) (t : State) → Premise (a || b) (IsFilled s.place)
     → BothParse (On a (TakesAs form take)) R s r t → BothParse (TakesAs form take) S s r t
-in_turn a b form take R S g s (Ok v) t i (m, h, k) =
-    let j = given a _ _ h (given_left a b _ i) in
-    (m, j, g m (Ok v.1) t (given_on b _ _ j.1.0 (given_right a b _ i)) k)
-in_turn a b form take R S g s (Err e) t i (inl h) = inl (given a _ _ h (given_left a b _ i))
-in_turn a b form take R S g s (Err e) t i (inr (v, m, h, k)) =
-    let j = given a _ _ h (given_left a b _ i) in
-    inr (v, m, j, g m (Err e) t (given_on b _ _ j.1.0 (given_right a b _ i)) k)
+in_turn a b form take R S g s r t i h = grind (arith, given, given_left, given_on, given_right)
 
 module _ {T U A B : Type 0} (form : T → A) (shape : U → B) (first : Taking A)
     (second : Taking B) where
@@ -55,12 +43,7 @@ module _ {T U A B : Type 0} (form : T → A) (shape : U → B) (first : Taking A
       → BothParse (TakesAs form first) (TakesAs shape second) s r t
       → TakesAs pair (take_both first second) s r t
   unfolding take_both
-  pair_takes s (Ok v) t (m, h, k) =
-      then_takes form pair first _ s m t v.0 (Ok v) h
-      (then_takes shape pair second _ m t t v.1 (Ok v) k (refl, stays_here t))
-  pair_takes s (Err f) t (inl h) = first_fails form pair first _ s t f h
-  pair_takes s (Err f) t (inr (v, m, h, k)) =
-      then_takes form pair first _ s m t v (Err f) h (first_fails shape pair second _ m t f k)
+  pair_takes s r t h = grind (arith, then_takes, stays_here, first_fails)
 
 -- two values in turn keep what is stated
 pub both_keep : {T U : Type 0} (first : Takings T) (second : Takings U) (s : State)
@@ -81,17 +64,7 @@ module _ {T U V A B C : Type 0} (form : T → A) (shape : U → B) (look : V →
       → ThreeParse (TakesAs form first) (TakesAs shape second) (TakesAs look third) s r t
       → TakesAs triple (take_three first second third) s r t
   unfolding take_three
-  triple_takes s (Ok v) t (m, h, (n, k, l)) =
-      then_takes form triple first _ s m t v.0 (Ok v) h
-      (then_takes shape triple second _ m n t v.1 (Ok v) k
-      (then_takes look triple third _ n t t v.2 (Ok v) l (refl, stays_here t)))
-  triple_takes s (Err f) t (inl h) = first_fails form triple first _ s t f h
-  triple_takes s (Err f) t (inr (v, m, h, inl k)) =
-      then_takes form triple first _ s m t v (Err f) h (first_fails shape triple second _ m t f k)
-  triple_takes s (Err f) t (inr (v, m, h, inr (w, n, k, l))) =
-      then_takes form triple first _ s m t v (Err f) h
-      (then_takes shape triple second _ m n t w (Err f) k
-      (first_fails look triple third _ n t f l))
+  triple_takes s r t h = grind (arith, then_takes, stays_here, first_fails)
 
   module _ (a b c : Bool) where
     abbrev Later : Call (U × V)
@@ -100,8 +73,7 @@ module _ {T U V A B C : Type 0} (form : T → A) (shape : U → B) (look : V →
     later : (s : State) (r : Result (U × V) Fault) (t : State)
         → Premise (b || c) (IsFilled s.place) → Later s r t
         → BothParse (TakesAs shape second) (TakesAs look third) s r t
-    later = in_turn b c shape second (On c (TakesAs look third)) (TakesAs look third)
-        (λ s r t i h. given c _ _ h i)
+    later = grind (arith, in_turn, given)
 
     triple_keeps : (s : State) (r : Result (T × U × V) Fault) (t : State)
         → Premise (a || (b || c)) (IsFilled s.place)

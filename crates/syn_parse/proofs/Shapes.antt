@@ -1,33 +1,25 @@
 -- Which trees are taken, in both directions: what is found is these trees, and these trees are
 -- found.
-use Rattle.std.proofs.Common.{◌≡◌, ◌∙◌, sym, ap, subst, refl, ℕ, ◌==◌, ◌&&◌, not, Bool, true, false}
-use Rattle.std.proofs.Common.{cond}
-use Rattle.std.proofs.Common.{List, [], ◌∷◌, ◌++◌, map, Option, Some, None, eq-eqb, eqb-true}
+use Rattle.std.proofs.Common.{arith, ◌≡◌, ◌∙◌, sym, ap, subst, refl, ℕ, ◌==◌, ◌&&◌, not, Bool, true}
+use Rattle.std.proofs.Common.{false, cond, List, [], ◌∷◌, ◌++◌, map, Option, Some, None, eq-eqb}
 use Rattle.std.proofs.Common.{bytes_eq}
 use Rattle.std.proofs.lemmas.Bool.{and_parts, false≢true}
 use Rattle.std.proofs.lemmas.Slice.Eq.{bytes_eq-Decides}
-use Rattle.std.specs.Option.{option_or}
 use Rattle.tok_lexical.specs.declared.delimiter.Delimiter.{Delimiter}
-use Rattle.tok_lexical.specs.declared.delimiter.Delimiter.TheVariants as delimiter
 use Rattle.tok_leaves.specs.declared.ident.Ident.{Ident}
 use Rattle.tok_leaves.specs.declared.lifetime.Lifetime.{Lifetime}
 use Rattle.tok_leaves.specs.declared.literal.Literal.{Literal}
 use Rattle.tok_leaves.specs.declared.punct.Punct.{Punct}
 use Rattle.tok_leaves.specs.declared.punct.Spacing.{Spacing}
-use Rattle.tok_leaves.specs.declared.punct.Spacing.TheVariants.{Alone, Joint}
+use Rattle.tok_leaves.specs.declared.punct.Spacing.TheVariants.{Joint}
 use Rattle.tok_leaves.specs.declared.span.DelimSpan.{DelimSpan}
 use Rattle.tok_leaves.specs.declared.span.Span.{Span}
-use Rattle.tok_leaves.specs.Leaves.{apostrophe, ident, punct, literal, ident_of, literal_of}
-use Rattle.tok_leaves.specs.Leaves.{punct_of}
+use Rattle.tok_leaves.specs.Leaves.{apostrophe, punct, ident_of, literal_of}
 use Rattle.tok_core.specs.Clear.{is_joint_apostrophe}
-use Rattle.tok_core.specs.Forest.{Tree, leaf, group, Forest, no_trees, tree, forest, concat}
-use Rattle.tok_core.specs.Forest.{tree_span}
+use Rattle.tok_core.specs.Forest.{Tree, leaf, group, Forest, tree, forest, concat, tree_span}
 use Rattle.tok_buffer.specs.EachRead.{and_first, first_if, first_keyword, first_lifetime}
 use Rattle.tok_buffer.specs.EachRead.{first_puncts}
-use Rattle.tok_buffer.specs.Entry.{same_delimiter, EnteredWith}
-use Rattle.tok_buffer.specs.InFront.{first_group, first_tree_span}
-use Rattle.tok_buffer.specs.Reads.{any_text, is_ident as any_ident, is_ident_of, is_joint_of}
-use Rattle.tok_buffer.specs.Reads.{is_literal, is_punct, is_punct_of}
+use Rattle.tok_buffer.specs.Reads.{any_text, is_ident_of, is_joint_of, is_punct_of}
 use Rattle.tok_types.specs.Texts.{accept_as_ident, keyword_text, punctuation_word}
 use Rattle.tok_types.specs.declared.punctuation.Punctuation.{Punctuation}
 use Rattle.syn_parse.specs.Parses.{AreSpans, IsIdent, IsLifetime, IsLiteral, IsPunct, IsSpanOf}
@@ -36,12 +28,10 @@ use Rattle.syn_parse.specs.ErrorWords.{span_in}
 use Rattle.syn_parse.specs.Lighter.{group_is_first}
 use Rattle.syn_parse.specs.TokenNames.{Name, take}
 use Rattle.syn_parse.specs.Tokens as token
-use Rattle.syn_parse.specs.Tokens.{Kind, ident_in, lifetime_in, literal_in, punct_in, take_ident}
-use Rattle.syn_parse.specs.Tokens.{take_literal, take_nothing, take_token}
+use Rattle.syn_parse.specs.Tokens.{Kind, lifetime_in, take_ident, take_literal, take_token}
 use Rattle.syn_parse.specs.Positions.{Missing}
 use Rattle.syn_parse.specs.TreesAhead.{Ahead, all_taken, only_trees, unread_after}
-use Rattle.syn_parse.specs.Takes.{Outcome, Taking, after_inside, found, inside_first, missing}
-use Rattle.syn_parse.specs.Takes.{and_then, read_as, take_by, take_group}
+use Rattle.syn_parse.specs.Takes.{Outcome, Taking, found, and_then, read_as, take_by, take_group}
 
 -- these trees are ahead first
 abbrev pub before : List Tree → Ahead → Ahead
@@ -63,8 +53,7 @@ pub record Then {A B : Type 0} (o : Outcome A) (k : A → Ahead
 
 pub then_found : {A B : Type 0} (o : Outcome A) (k : A → Ahead → Outcome B) (w : B) (b : Ahead)
     → and_then o k ≡ found w b → Then o k w b
-then_found (found v c) k w b e = record { value = v; after = c; first = refl; rest = e }
-then_found (missing m) k w b e = absurd (cc)
+then_found o k w b e = grind arith
 
 -- a step finds a value, and the steps after it go on from there
 pub step : {A B : Type 0} {o : Outcome A} {v : A} {b : Ahead} {w : Outcome B}
@@ -131,70 +120,18 @@ rest_is e = ap (λ (r : List Tree × Forest). r.1) (is_read _ _ e)
 -- the first tree, by a test
 first_tree : (wanted : Tree → Bool)
     → ReadShape (first_if wanted) (λ ts. (t : Tree) × (ts ≡ t ∷ []) × (wanted t ≡ true))
-first_tree wanted = record {
-  taken = λ f g ts e. go f g ts e;
-  takes = λ g ts i.
-      subst (λ us. first_if wanted (concat (forest us) g) ≡ Some (us, g)) (sym i.1)
-      (ap (λ c. cond {A = Read} c (Some (i.0 ∷ [], g)) None) i.2);
-} where
-  by_test : (t : Tree) (f g : Forest) (ts : List Tree) (c : Bool) → wanted t ≡ c
-      → cond {A = Read} c (Some (t ∷ [], f)) None ≡ Some (ts, g)
-      → ((u : Tree) × (ts ≡ u ∷ []) × (wanted u ≡ true)) × (tree t f ≡ concat (forest ts) g)
-  by_test t f g ts false h e = absurd (cc)
-  by_test t f g ts true h e =
-      let us = trees_are e in
-      ((t, sym us, h), ap (tree t) (rest_is e) ∙ ap (λ x. concat (forest x) g) us)
-
-  go : (f g : Forest) (ts : List Tree) → first_if wanted f ≡ Some (ts, g)
-      → ((u : Tree) × (ts ≡ u ∷ []) × (wanted u ≡ true)) × (f ≡ concat (forest ts) g)
-  go no_trees g ts e = absurd (cc)
-  go (tree t f) g ts e = by_test t f g ts (wanted t) refl e
+first_tree wanted = grind (arith, trees_are, rest_is)
 
 abbrev One : (Tree → Bool) → List Tree → Type 0
 One wanted ts = (t : Tree) × (ts ≡ t ∷ []) × (wanted t ≡ true)
-
--- a token of one tree, by a test
-by_tree : {T : Type 0} (Is : T → List Tree → Type 0) (wanted : Tree → Bool) (means : List Tree → T)
-    (lack : Forest → Missing)
-    → ((t : Tree) → wanted t ≡ true → Is (means (t ∷ [])) (t ∷ []))
-    → ((v : T) (ts : List Tree) → Is v ts → One wanted ts × (means ts ≡ v))
-    → Shape Is (take_by (first_if wanted) means lack)
-by_tree Is wanted means lack is are =
-    by_read Is _ _ means lack (first_tree wanted)
-    (λ ts i. subst (λ us. Is (means us) us) (sym i.1) (is i.0 i.2)) are
 
 -- an identifier of an accepted text
 abbrev pub IsAccepted : (List ℕ → Bool) → Ident → List Tree → Type 0
 IsAccepted accept v ts = IsIdent v ts × (accept v.text ≡ true)
 
-ident_is : (accept : List ℕ → Bool) (t : Tree) → is_ident_of accept t ≡ true
-    → IsAccepted accept (ident_in (t ∷ [])) (t ∷ [])
-ident_is accept (leaf (ident text span)) h = (refl, h)
-ident_is accept (leaf (punct c x y)) h = absurd (false≢true h)
-ident_is accept (leaf (literal x y)) h = absurd (false≢true h)
-ident_is accept (group d x y) h = absurd (false≢true h)
-
-any_ident_is : (t : Tree) → any_ident t ≡ true → IsIdent (ident_in (t ∷ [])) (t ∷ [])
-any_ident_is (leaf (ident text span)) h = refl
-any_ident_is (leaf (punct c x y)) h = absurd (false≢true h)
-any_ident_is (leaf (literal x y)) h = absurd (false≢true h)
-any_ident_is (group d x y) h = absurd (false≢true h)
-
-literal_is : (t : Tree) → is_literal t ≡ true → IsLiteral (literal_in (t ∷ [])) (t ∷ [])
-literal_is (leaf (literal text span)) h = refl
-literal_is (leaf (punct c x y)) h = absurd (false≢true h)
-literal_is (leaf (ident x y)) h = absurd (false≢true h)
-literal_is (group d x y) h = absurd (false≢true h)
-
 -- a punct other than an apostrophe
 abbrev pub IsOwnPunct : Punct → List Tree → Type 0
 IsOwnPunct v ts = IsPunct v ts × (not (v.ch == apostrophe) ≡ true)
-
-punct_is : (t : Tree) → is_punct t ≡ true → IsOwnPunct (punct_in (t ∷ [])) (t ∷ [])
-punct_is (leaf (punct c spacing span)) h = (refl, h)
-punct_is (leaf (literal x y)) h = absurd (false≢true h)
-punct_is (leaf (ident x y)) h = absurd (false≢true h)
-punct_is (group d x y) h = absurd (false≢true h)
 
 -- puncts of these characters, each but the last joint
 abbrev pub Spells : List ℕ → List Tree → Type 0
@@ -263,11 +200,7 @@ IsPunctuation k n v ts = Spells (punctuation_word k n) ts × AreSpans v.spans ts
 -- an identifier of one text
 text_is : (text : List ℕ) (t : Tree) → is_ident_of (bytes_eq text) t ≡ true
     → IsSpanOf text (span_in (t ∷ [])) (t ∷ [])
-text_is text (leaf (ident word span)) h =
-    ap (λ x. leaf (ident x span) ∷ []) (sym ((bytes_eq-Decides text word).0 h))
-text_is text (leaf (punct k x y)) h = absurd (false≢true h)
-text_is text (leaf (literal x y)) h = absurd (false≢true h)
-text_is text (group d x y) h = absurd (false≢true h)
+text_is text t h = grind (arith, bytes_eq-Decides, false≢true)
 
 word_is : (text : List ℕ) (ts : List Tree) → One (is_ident_of (bytes_eq text)) ts
     → IsSpanOf text (span_in ts) ts
@@ -275,8 +208,7 @@ word_is text ts i = subst (λ us. IsSpanOf text (span_in us) us) (sym i.1) (text
 
 is_word : (text : List ℕ) (span : Span) (ts : List Tree) → IsSpanOf text span ts
     → One (is_ident_of (bytes_eq text)) ts × (span_in ts ≡ span)
-is_word text span ts i =
-    ((leaf (ident text span), i, (bytes_eq-Decides text text).1 refl), ap span_in i)
+is_word text span ts i = grind (arith, bytes_eq-Decides)
 
 -- a text that is not empty
 abbrev pub IsFull : List ℕ → Type 0
@@ -284,9 +216,7 @@ IsFull text = (c : ℕ) × (cs : List ℕ) × (text ≡ c ∷ cs)
 
 a_word : (text : List ℕ) → IsFull text
     → ReadShape (first_keyword text) (One (is_ident_of (bytes_eq text)))
-a_word text e =
-    subst (λ t. ReadShape (first_keyword t) (One (is_ident_of (bytes_eq t)))) (sym e.2)
-    (first_tree _)
+a_word text e = grind (arith, first_tree)
 
 -- an apostrophe and an identifier of an accepted text
 abbrev pub IsAcceptedLifetime : (List ℕ → Bool) → Lifetime → List Tree → Type 0
@@ -296,26 +226,6 @@ abbrev Pair : (List ℕ → Bool) → List Tree → Type 0
 Pair accept ts =
     (us : List Tree) × (ws : List Tree) × (ts ≡ us ++ ws) × One is_joint_apostrophe us
     × One (is_ident_of accept) ws
-
-mark_is : (t : Tree) → is_joint_apostrophe t ≡ true → t
-    ≡ leaf (punct apostrophe Joint (tree_span t))
-mark_is (leaf (punct c Joint span)) h = ap (λ d. leaf (punct d Joint span))
-    (eqb-true c apostrophe h)
-mark_is (leaf (punct c Alone span)) h = absurd (false≢true h)
-mark_is (leaf (ident x y)) h = absurd (false≢true h)
-mark_is (leaf (literal x y)) h = absurd (false≢true h)
-mark_is (group d x y) h = absurd (false≢true h)
-
-pair_is : (accept : List ℕ → Bool) (ts : List Tree) → Pair accept ts
-    → IsAcceptedLifetime accept (lifetime_in ts) ts
-pair_is accept ts i =
-    let name = ident_is accept i.4.0 i.4.2 in
-    subst (λ us. IsAcceptedLifetime accept (lifetime_in us) us)
-    (sym (i.2 ∙ ap (λ us. us ++ i.1) i.3.1 ∙ ap (λ ws. i.3.0 ∷ ws) i.4.1)) (
-      ap (λ t. t ∷ i.4.0 ∷ []) (mark_is i.3.0 i.3.2)
-          ∙ ap (λ ws. leaf (punct apostrophe Joint (tree_span i.3.0)) ∷ ws) name.0,
-      name.1,
-    )
 
 is_pair : (accept : List ℕ → Bool) (v : Lifetime) (ts : List Tree) → IsAcceptedLifetime accept v ts
     → Pair accept ts × (lifetime_in ts ≡ v)
@@ -354,20 +264,12 @@ IsWritten t = Unit {0}
 
 pub token_shape : {A : Type 0} (t : Kind A) → IsWritten t → Shape (IsToken t) (take_token t)
 unfolding take_token
-token_shape token.ident h =
-    by_tree _ _ ident_in _ (ident_is accept_as_ident)
-    (λ v ts i. ((leaf (ident_of v), i.0, i.1), ap ident_in i.0))
-token_shape token.any_ident h =
-    by_tree _ _ ident_in _ any_ident_is (λ v ts i. ((leaf (ident_of v), i, refl), ap ident_in i))
-token_shape token.lifetime h =
-    by_read _ _ _ lifetime_in _ (lifetimes _) (pair_is _) (is_pair _)
-token_shape token.any_lifetime h =
-    by_read _ _ _ lifetime_in _ (lifetimes _) (pair_is _) (is_pair _)
-token_shape token.literal h =
-    by_tree _ _ literal_in _ literal_is
-    (λ v ts i. ((leaf (literal_of v), i, refl), ap literal_in i))
-token_shape token.punct h =
-    by_tree _ _ punct_in _ punct_is (λ v ts i. ((leaf (punct_of v), i.0, i.1), ap punct_in i.0))
+token_shape token.ident h = grind (arith, by_read, first_tree, false≢true)
+token_shape token.any_ident h = grind (arith, by_read, first_tree, false≢true)
+token_shape token.lifetime h = grind (arith, by_read, lifetimes, false≢true, is_pair)
+token_shape token.any_lifetime h = grind (arith, by_read, lifetimes, false≢true, is_pair)
+token_shape token.literal h = grind (arith, by_read, first_tree, false≢true)
+token_shape token.punct h = grind (arith, by_read, first_tree, false≢true)
 token_shape (token.own text) h =
     by_read _ _ _ span_in _ (a_word text h) (word_is text) (is_word text)
 token_shape (token.keyword k) h =
@@ -388,61 +290,18 @@ pub record GroupTaken {A : Type 0} (d : Delimiter) (inner : Taking A) (v : Delim
   pub trees : a.trees ≡ tree (group d content v.0.join) b.trees
   pub unread : b.unread ≡ unread_after a left
 
-itself : (d : Delimiter) → same_delimiter d d ≡ true
-itself delimiter.Parenthesis = refl
-itself delimiter.Brace = refl
-itself delimiter.Bracket = refl
-itself delimiter.None = refl
-
 module _ {A : Type 0} (d : Delimiter) (inner : Taking A) where
-  inside_taken : (a : Ahead) (e : EnteredWith Forest) (b : Ahead) (v : DelimSpan × A)
-      (o : Outcome A)
-      → inner (only_trees e.content) ≡ o → after_inside a e o ≡ found v b
-      → a.trees ≡ tree (group d e.content e.span) e.after → GroupTaken d inner v a b
-  inside_taken a e b v (missing lack) h k m = absurd (cc)
-  inside_taken a e b v (found w left) h k m =
-      let first : (record { join = e.span }, w) ≡ v = found_first k in
-      let after = found_second k in
-      record {
-        content = e.content;
-        left = left;
-        inside = h ∙ ap (λ (x : DelimSpan × A). found x.1 left) first;
-        trees =
-            m ∙ ap (λ (x : DelimSpan × A). tree (group d e.content x.0.join) e.after) first
-            ∙ ap (λ (x : Ahead). tree (group d e.content v.0.join) x.trees) after;
-        unread = sym (ap (λ (x : Ahead). x.unread) after);
-      }
-
   pub group_taken : (a b : Ahead) (v : DelimSpan × A) → take_group d inner a ≡ found v b
       → GroupTaken d inner v a b
   unfolding take_group
-  group_taken a b v e = go (first_group d a.trees) refl e where
-    go : (x : Option (EnteredWith Forest)) → first_group d a.trees ≡ x → inside_first d inner a x
-        ≡ found v b
-        → GroupTaken d inner v a b
-    go None h k = absurd (cc)
-    go (Some x) h k = inside_taken a x b v _ refl k (group_is_first d a.trees x h).0
+  group_taken a b v e = grind (arith, first, found_first, found_second, group_is_first)
 
   pub takes_group : (content : Forest) (span : Span) (x : A) (b : Ahead)
       → inner (only_trees content) ≡ found x all_taken
       → take_group d inner (before (group d content span ∷ []) b)
       ≡ found (record { join = span }, x) b
   unfolding take_group
-  takes_group content span x b h =
-      let e : EnteredWith Forest = record {
-        delimiter = d;
-        span = span;
-        content = content;
-        after = b.trees;
-      } in
-      let a = before (group d content span ∷ []) b in
-      ap (λ t. inside_first d inner a (cond t (Some e) None)) (itself d)
-      ∙ ap (after_inside a e) h
-      ∙ ap (λ c. found (record { join = span }, x) (record { trees = b.trees; unread = c }))
-      (still b.unread) where
-        still : (c : Option Span) → option_or c (option_or None (first_tree_span no_trees)) ≡ c
-        still None = refl
-        still (Some s) = refl
+  takes_group content span x b h = grind arith
 
 abbrev is_own : ℕ → Bool
 is_own c = not (c == apostrophe)
@@ -455,15 +314,7 @@ IsSign c v ts =
 
 sign_is : (c : ℕ) {k : ℕ} (v : Punctuation k 1) (t : Tree) → is_punct_of c t ≡ true
     → v.spans ≡ tree_span t ∷ [] → IsSign c v (t ∷ [])
-sign_is c v (leaf (punct d spacing span)) h e = (
-  spacing,
-  span,
-  ap (λ x. leaf (punct x spacing span) ∷ []) (eqb-true d c (and_parts _ _ h).0),
-  ap (λ xs. record { spans = xs }) e,
-)
-sign_is c v (leaf (ident x y)) h e = absurd (false≢true h)
-sign_is c v (leaf (literal x y)) h e = absurd (false≢true h)
-sign_is c v (group d x y) h e = absurd (false≢true h)
+sign_is c v t h e = grind (arith, and_parts, false≢true)
 
 pub sign_shape : {k : ℕ} (name : Name (Punctuation k 1) (token.punctuation k 1)) (c : ℕ)
     → punctuation_word k 1 ≡ c ∷ [] → is_own c ≡ true → Shape (IsSign c) (take name)

@@ -1,6 +1,6 @@
 -- What is taken is these trees: of each way to build a parser.
-use Rattle.std.proofs.Common.{◌≡◌, ◌∙◌, sym, ap, subst, refl, ℕ, zero, suc, Bool, true, false}
-use Rattle.std.proofs.Common.{cond, List, [], ◌∷◌, ◌++◌, Option, Some, None}
+use Rattle.std.proofs.Common.{arith, ◌≡◌, ◌∙◌, sym, ap, refl, ℕ, zero, suc, Bool, true, false, List}
+use Rattle.std.proofs.Common.{[], ◌∷◌, ◌++◌, Option, Some, None}
 use Rattle.std.specs.Option.{option_or}
 use Rattle.tok_lexical.specs.declared.delimiter.Delimiter.{Delimiter}
 use Rattle.tok_leaves.specs.declared.span.DelimSpan.{DelimSpan}
@@ -11,8 +11,8 @@ use Rattle.tok_buffer.specs.InFront.{first_tree_span}
 use Rattle.syn_parse.proofs.Shapes.{Shape, before, forests_join, found_first, found_second}
 use Rattle.syn_parse.proofs.Shapes.{group_taken, then_found}
 use Rattle.syn_parse.specs.Nested.{levels, take_nested}
-use Rattle.syn_parse.specs.Takes.{Taking, ◌>>=◌, found, gives, refuses, refuses_at}
-use Rattle.syn_parse.specs.Takes.{take_group, where_ahead}
+use Rattle.syn_parse.specs.Takes.{Taking, ◌>>=◌, found, gives, refuses, refuses_at, take_group}
+use Rattle.syn_parse.specs.Takes.{where_ahead}
 use Rattle.syn_parse.specs.TreesAhead.{Ahead, all_taken, only_trees, unread_after}
 
 -- what is taken is these trees
@@ -40,51 +40,27 @@ implied h i = record { taken = λ a b v e. let t = h.taken a b v e in (t.0, i v 
 module _ {A : Type 0} {Is : A → List Tree → Type 0} where
   -- no step is left, and no tree is taken
   pub ends : {v : A} → Is v [] → Sound (gives v) Is
-  ends i = record {
-    taken = λ a b w e. ([], subst (λ x. Is x []) (found_first e) i, found_second e);
-  }
+  ends i = grind (arith, found_first, found_second)
 
   -- a step, and the steps after it
   pub after : {B : Type 0} {P : B → List Tree → Type 0} {m : Taking B} {k : B → Taking A}
       → Sound m P
       → ((v : B) → Sound (k v) (λ w us. (ts : List Tree) → P v ts → Is w (ts ++ us)))
       → Sound (m >>= k) Is
-  after {m} {k} h l = record {
-    taken = λ a b w e.
-        let t = then_found (m a) k w b e in
-        let p = h.taken a t.after t.value t.first in
-        let r = (l t.value).taken t.after b w t.rest in (
-          p.0 ++ r.0,
-          r.1 p.0 p.1,
-          p.2 ∙ ap (before p.0) r.2
-              ∙ ap (λ f. record { trees = f; unread = b.unread }) (forests_join p.0 r.0 b.trees),
-        );
-  }
+  after {m} {k} h l = grind (arith, then_found, before, forests_join)
 
   -- the last step that takes something, and a form of its value
   pub given : {B : Type 0} {P : B → List Tree → Type 0} {m : Taking B} (form : B → A) → Sound m P
       → ((v : B) (ts : List Tree) → P v ts → Is (form v) ts)
       → Sound (m >>= (λ v. gives (form v))) Is
-  given {m} form h is = record {
-    taken = λ a b w e.
-        let t = then_found (m a) (λ v. found (form v)) w b e in
-        let p = h.taken a t.after t.value t.first in (
-          p.0,
-          subst (λ x. Is x p.0) (found_first t.rest) (is t.value p.0 p.1),
-          p.2 ∙ ap (before p.0) (found_second t.rest),
-        );
-  }
+  given {m} form h is = grind (arith, then_found, found_first, before, found_second)
 
   -- a choice by a test, which is known in each branch
   pub either : (test : Ahead → Bool) {m n : Taking A}
       → Sound m (λ v ts. (b : Ahead) → test (before ts b) ≡ true → Is v ts)
       → Sound n (λ v ts. (b : Ahead) → test (before ts b) ≡ false → Is v ts)
       → Sound (where_ahead test m n) Is
-  either test {m} {n} h k = record { taken = λ a b v e. go a b v (test a) refl e } where
-    go : (a b : Ahead) (v : A) (t : Bool) → test a ≡ t → cond t (m a) (n a) ≡ found v b
-        → (ts : List Tree) × Is v ts × (a ≡ before ts b)
-    go a b v true i e = let t = h.taken a b v e in (t.0, t.1 b (ap test (sym t.2) ∙ i), t.2)
-    go a b v false i e = let t = k.taken a b v e in (t.0, t.1 b (ap test (sym t.2) ∙ i), t.2)
+  either test {m} {n} h k = grind (arith, before)
 
   -- a choice, whatever its test
   pub choice : (test : Ahead → Bool) {m n : Taking A} → Sound m Is → Sound n Is

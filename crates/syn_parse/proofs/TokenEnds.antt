@@ -1,12 +1,8 @@
 -- Where the tokens of a source end.
-use Rattle.std.proofs.Common.{◌≡◌, ◌∙◌, ap, subst, refl, ℕ, Bool, true, false, Option, Some, List}
-use Rattle.std.proofs.Common.{[]}
-use Rattle.std.specs.Prelude.{cond, nat_lt, ◌-◌}
-use Rattle.tok_leaves.specs.Spans.{call_site, closing_span, source}
-use Rattle.tok_leaves.specs.declared.span.Origin.{Origin}
-use Rattle.tok_leaves.specs.declared.span.Origin.TheVariants.{CallSite, Source}
+use Rattle.std.proofs.Common.{arith, ◌≡◌, ap, subst, refl, ℕ, true, Option, Some, List, []}
+use Rattle.tok_leaves.specs.Spans.{call_site}
 use Rattle.tok_leaves.specs.declared.span.Span.{Span}
-use Rattle.tok_core.specs.Forest.{Tree, leaf, group, Forest, no_trees, tree, tree_span}
+use Rattle.tok_core.specs.Forest.{Tree, Forest, no_trees, tree, tree_span}
 use Rattle.tok_buffer.specs.Place.{Place, at, frame, is_at_end, start, whole}
 use Rattle.tok_buffer.specs.Reads.{place_after, read_tree}
 use Rattle.tok_buffer.specs.Spans.{last_span, previous_span}
@@ -40,25 +36,9 @@ passes-all : (last : Span) (p q : Place) → IsOutside last p → PassesTrees p 
 passes-all last p q h here = h
 passes-all last p z h (further q r ts k e) = passes-one last q r ts (passes-all last p q h k) e
 
--- a group ends where its closing delimiter does
-closing-ends : (number : ℕ) (o : Origin)
-    → end_of_span number (closing_span (record { origin = o }))
-    ≡ end_of_span number (record { origin = o })
-closing-ends number CallSite = refl
-closing-ends number (Source n a b) = go (nat_lt a b) where
-  go : (less : Bool)
-      → end_of_span number (cond less (source n (b - 1) b) (source n a b)) ≡ source n b b
-  go true = refl
-  go false = refl
-
 ends-outside : (number : ℕ) (last : Span) (q : Place) → IsOutside last q → is_at_end q ≡ true
     → end_of_span number (previous_span q) ≡ end_of_span number last
-ends-outside number last q (outside n s c no_trees no_trees h) e = ap (end_of_span number) h
-ends-outside number last q (outside n s c (tree (leaf l) p) no_trees h) e =
-    ap (end_of_span number) h
-ends-outside number last q (outside n s c (tree (group d inside span) p) no_trees h) e =
-    closing-ends number span.origin ∙ ap (end_of_span number) h
-ends-outside number last q (outside n s c passed (tree t f) h) e = absurd (cc)
+ends-outside number last q h e = grind arith
 
 -- the span before the end of a whole buffer ends where its tokens do
 pub tokens_end : (number n : ℕ) (f : Forest) (q : Place) → EndsScope (start n f) q

@@ -1,8 +1,6 @@
 -- Parses of one read take what is ahead.
-use Rattle.std.proofs.Common.{◌≡◌, ◌∙◌, sym, ap, subst, refl, arith, ◌≤◌, ℕ, List, [], ◌∷◌}
-use Rattle.std.proofs.Common.{Option, Some, None, Ok, Err}
-use Rattle.std.specs.Prelude.{Bool, Result, IfSome, true, false, cond, codes, not, ◌++◌, length}
-use Rattle.std.specs.Prelude.{map}
+use Rattle.std.proofs.Common.{◌≡◌, ◌∙◌, sym, ap, subst, arith, ℕ, List, [], ◌∷◌, Option, Some, None}
+use Rattle.std.specs.Prelude.{Bool, Result, IfSome, cond, codes, not, map}
 use Rattle.std.proofs.lemmas.Bool.{false≢true}
 use Rattle.tok_leaves.specs.declared.span.Span.{Span}
 use Rattle.tok_core.specs.Filled.{has_trees}
@@ -13,46 +11,40 @@ use Rattle.tok_buffer.specs.Buffer.{Laid}
 use Rattle.tok_buffer.specs.Messages.{message_at, one_message}
 use Rattle.tok_buffer.specs.Place.{Place, is_at_end}
 use Rattle.tok_buffer.specs.Reached.{Reached}
-use Rattle.tok_buffer.specs.Reads.{any_text, is_ident, is_ident_of}
-use Rattle.tok_buffer.specs.Reads.{read_ident, read_lifetime, read_punct}
+use Rattle.tok_buffer.specs.Reads.{any_text, is_ident, is_ident_of, read_ident, read_lifetime}
+use Rattle.tok_buffer.specs.Reads.{read_punct}
 use Rattle.tok_buffer.specs.declared.error.Message.{Message}
-use Rattle.tok_buffer.specs.Rest.{scope_delimiter}
 use Rattle.tok_buffer.specs.Spans.{current_span}
 use Rattle.tok_buffer.specs.View.{erased_ahead}
-use Rattle.tok_buffer.specs.Progress.{remaining}
 use Rattle.tok_buffer.proofs.Onwards.{GoesOn, keeps_scope, reading_goes}
 use Rattle.tok_buffer.proofs.View.InFront.{ahead_tells_ends}
 use Rattle.tok_buffer.proofs.View.Laws.{reached_leads_on}
 use Rattle.tok_buffer.proofs.View.Moves.{LeadsTo, leads}
 use Rattle.tok_buffer.proofs.View.Readings.{Reading, of_ident, of_word, of_lifetime, of_literal}
-use Rattle.tok_buffer.proofs.View.Readings.{of_keyword}
-use Rattle.tok_buffer.proofs.View.Readings.{of_punct, of_punctuation}
+use Rattle.tok_buffer.proofs.View.Readings.{of_keyword, of_punct, of_punctuation}
 use Rattle.tok_buffer.proofs.View.Tells.{tells}
 use Rattle.tok_types.specs.Texts.{accept_as_ident, in_backquotes, keyword_text, punctuation_word}
 use Rattle.syn_parse.specs.Parses.{AnyIdentParses, AnyLifetimeParses, AreSpans, IdentParses}
-use Rattle.syn_parse.specs.Parses.{IsIdent}
-use Rattle.syn_parse.specs.Parses.{IsLifetime, IsLiteral, IsPunct, IsSpanOf, LifetimeParses}
-use Rattle.syn_parse.specs.Parses.{LiteralParses, PunctParses, WordParses, accept_as_lifetime}
+use Rattle.syn_parse.specs.Parses.{IsIdent, IsLifetime, IsLiteral, IsPunct, IsSpanOf}
+use Rattle.syn_parse.specs.Parses.{LifetimeParses, LiteralParses, PunctParses, WordParses}
+use Rattle.syn_parse.specs.Parses.{accept_as_lifetime}
 use Rattle.syn_parse.specs.Progress.{KeywordParses, PunctuationTypeParses}
-use Rattle.syn_parse.specs.Faults.{IsMemory, Refuses}
+use Rattle.syn_parse.specs.Faults.{Refuses}
 use Rattle.syn_parse.specs.Owned.{take_own}
 use Rattle.syn_parse.specs.Reads.{Call, TreesRead, Reads, ReadsAtOnce}
 use Rattle.syn_parse.specs.ErrorWords.{ident_words, expected, lifetime_words, punctuation_message}
 use Rattle.syn_parse.specs.ErrorWords.{punct_span, punctuation_span, refused_at, span_in}
 use Rattle.syn_parse.specs.Positions.{IsAt, Missing, scope_trees}
-use Rattle.syn_parse.specs.State.{State, fresh, moved, state_span}
+use Rattle.syn_parse.specs.State.{State, fresh, state_span}
 use Rattle.syn_parse.specs.declared.fault.Fault.{Fault}
 use Rattle.syn_parse.specs.declared.fault.Fault.TheVariants.{Refused, Memory}
-use Rattle.syn_parse.specs.TreesAhead.{Ahead, IsFilled, ahead, scope_of}
-use Rattle.syn_parse.specs.Lookahead.{LookaheadView, at_look, closing_word, list_words}
-use Rattle.syn_parse.specs.Lookahead.{look_message}
-use Rattle.syn_parse.specs.Lookahead.{look_missing, missing_names, named_ends, names_message}
-use Rattle.syn_parse.specs.Takes.{IsMissing, Outcome, SaysAt, SaysFound, Takes, TakesAs, found}
-use Rattle.syn_parse.specs.Takes.{missing_next, or_end, read_as, take_by}
+use Rattle.syn_parse.specs.TreesAhead.{Ahead, IsFilled, ahead}
+use Rattle.syn_parse.specs.Lookahead.{LookaheadView, at_look, list_words, look_message}
+use Rattle.syn_parse.specs.Lookahead.{look_missing, missing_names, names_message}
+use Rattle.syn_parse.specs.Takes.{Outcome, SaysAt, Takes, TakesAs, missing_next, or_end, take_by}
 use Rattle.syn_parse.specs.Tokens.{ident_in, lifetime_in, literal_in, punct_position, sign_missing}
-use Rattle.syn_parse.specs.Tokens.{sign_position}
-use Rattle.syn_parse.specs.Tokens.{Kind, any_ident, any_lifetime, ident, keyword, lifetime, literal}
-use Rattle.syn_parse.specs.Tokens.{own, punct, punct_in, punctuation, take_token}
+use Rattle.syn_parse.specs.Tokens.{sign_position, Kind, any_ident, any_lifetime, ident, keyword}
+use Rattle.syn_parse.specs.Tokens.{lifetime, literal, own, punct, punct_in, punctuation, take_token}
 use Rattle.syn_parse.proofs.Failing.{says_memory}
 use Rattle.syn_parse.proofs.Positions.{InScope, scope_kept, start_told, whole_told}
 use Rattle.syn_parse.proofs.Progress.{at_once}
@@ -65,8 +57,7 @@ end_told p i = ahead_tells_ends i.buffer i.filled_buffer p i.reached
 -- words at a stream, by what is ahead
 pub words_told : (words : List ℕ) (s : State) → IsFilled s.place
     → (refused_at s words).text ≡ or_end words (erased_ahead s.place)
-words_told words s i =
-    ap (λ b. cond b (codes "unexpected end of input, " ++ words) words) (end_told s.place i)
+words_told words s i = grind (arith, end_told)
 
 -- an error at a stream says that these words are missing there
 pub here_told : (words : List ℕ) (s : State) (f : Fault) → Refuses (refused_at s words) f
@@ -91,10 +82,7 @@ unexpected-is : (at_end : Bool) (some : Bool) (scope here : Span) → at_end ≡
     (message_at here (codes "unexpected token"))
     ≡ message_at (cond at_end scope here)
     (cond some (codes "unexpected token") (codes "unexpected end of input"))
-unexpected-is true true scope here e = absurd (false≢true (sym e))
-unexpected-is true false scope here e = refl
-unexpected-is false true scope here e = refl
-unexpected-is false false scope here e = absurd (false≢true e)
+unexpected-is at_end some scope here e = grind (arith, false≢true)
 
 -- a lookahead's error
 names-told : (names : List (List ℕ)) (p : Place) (scope : Span) (f : Fault)
@@ -111,9 +99,7 @@ names-told (d ∷ ds) p scope f h i = here_told (list_words (d ∷ ds)) (fresh p
 
 pub look_told : (l : LookaheadView) (f : Fault) → Refuses (look_message l) f
     → SaysAt (at_look l) (look_missing l) f
-look_told l f h =
-    names-told (named_ends (closing_word (scope_delimiter l.place)) l.missed) l.place l.scope_span f
-    h
+look_told l f h = grind (arith, names-told)
 
 module _ {T A : Type 0} (form : T → A) (Means : T → List Tree → Type 0) (means : List Tree → A)
     (fits : (v : T) (ts : List Tree) → Means v ts → form v ≡ means ts)
@@ -123,53 +109,11 @@ module _ {T A : Type 0} (form : T → A) (Means : T → List Tree → Type 0) (m
   abbrev take : Ahead → Outcome A
   take = take_by first means lack
 
-  abbrev outcome_of : Option (List Tree × Forest) → Outcome A
-  outcome_of = read_as means lack (ahead s)
-
-  read_takes : (q : List Tree × Place) (v : T)
-      → Some (q.0, erased_ahead q.1) ≡ first (erased_ahead s.place)
-      → ((b : Laid) → Reached b s.place → Reached b q.1)
-      → GoesOn s.place q.1 → scope_trees q.1 ≡ scope_trees s.place
-      → Means v q.0
-      → t ≡ moved q.1 s → TakesAs form take s (Ok v) t
-  read_takes q v e leads goes same m k = (
-    ap outcome_of (sym e) ∙ ap (λ u. found (means q.0) (ahead u)) (sym k)
-        ∙ ap (λ x. found x (ahead t)) (sym (fits v q.0 m)),
-    (
-      λ i. record {
-        buffer = i.buffer;
-        filled_buffer = i.filled_buffer;
-        reached = subst (λ u. Reached i.buffer u.place) (sym k) (leads i.buffer i.reached);
-      },
-      ap (λ u. scope_of u.place) k ∙ one_scope s.place q.1 (keeps_scope s.place q.1 goes),
-      subst (λ u. remaining u.place ≤ remaining s.place) (sym k) (omega (arith, goes.1)),
-      ap (λ u. scope_trees u.place) k ∙ same,
-      ap (λ u. u.scope_span) k,
-    ),
-  )
-
-  none : (f : Fault) → None ≡ first (erased_ahead s.place) → Refuses message f
-      → TakesAs form take s (Err f) t
-  none (Refused e) h r = (
-    (subst (λ o. IsMissing o) (ap outcome_of h) tt, ap length r),
-    λ i.
-        subst (λ o. SaysFound (scope_trees s.place) s.scope_span o (Refused e)) (ap outcome_of h)
-        (says (Refused e) r i),
-  )
-  none (Memory e) h r = (tt, λ i. says_memory (scope_trees s.place) s.scope_span (take (ahead s)) e)
-
-  memory : (f : Fault) → IsMemory f → TakesAs form take s (Err f) t
-  memory (Refused e) m = absurd m
-  memory (Memory e) m = (tt, λ i. says_memory (scope_trees s.place) s.scope_span (take (ahead s)) e)
-
   pub told-by : (x : TreesRead) (r : Result T Fault) → with_ahead x ≡ first (erased_ahead s.place)
       → ((b : Laid) → Reached b s.place → LeadsTo (Reached b) x)
       → LeadsTo (GoesOn s.place) x → LeadsTo (InScope (scope_trees s.place)) x
       → Reads Means x message s r t → TakesAs form take s r t
-  told-by None (Ok v) e leads goes same h = absurd h
-  told-by (Some q) (Ok v) e leads goes same h = read_takes q v e leads goes same h.0 h.1
-  told-by None (Err f) e leads goes same h = none f e h.0
-  told-by (Some q) (Err f) e leads goes same h = memory f h.0
+  told-by x r e k m i h = grind (arith, leads, one_scope, keeps_scope, says_memory)
 
   module _ {read : Place → TreesRead} (reading : Reading read first) where
     pub read_told : (r : Result T Fault) → Reads Means (read s.place) message s r t
@@ -184,12 +128,10 @@ module _ {T A : Type 0} (form : T → A) (Means : T → List Tree → Type 0) (m
     told-at-once r h = read_told r (at_once Means s (read s.place) message r t h)
 
 ident-words : (x : TreesRead) → ident_words x ≡ ident_words (with_ahead x)
-ident-words None = refl
-ident-words (Some r) = refl
+ident-words x = grind arith
 
 lifetime-words : (x : TreesRead) → lifetime_words x ≡ lifetime_words (with_ahead x)
-lifetime-words None = refl
-lifetime-words (Some r) = refl
+lifetime-words x = grind arith
 
 abbrev same : {A : Type 0} → A → A
 same v = v
@@ -197,8 +139,7 @@ same v = v
 -- the same words, in another form
 in_words : {v w : List ℕ} (s : State) (f : Fault) → v ≡ w
     → SaysAt s (missing_next v (ahead s).trees) f → SaysAt s (missing_next w (ahead s).trees) f
-in_words s f e h =
-    subst (λ x. SaysAt s (missing_next x (ahead s).trees) f) e h
+in_words s f e h = grind arith
 
 -- a read whose error has the same words everywhere
 module _ {T A : Type 0} (form : T → A) (Means : T → List Tree → Type 0) (means : List Tree → A)
@@ -228,8 +169,7 @@ own_told span_of text s r t h =
 sign-at : (s : State) → IsFilled s.place → (x : TreesRead)
     → IsAt (scope_trees s.place) s.scope_span
     (punct_position (with_ahead x) (erased_ahead s.place)) (punct_span x (state_span s))
-sign-at s i None = start_told s.place s.scope_span i
-sign-at s i (Some r) = refl
+sign-at s i x = grind (arith, start_told)
 
 sign_at : (text : List ℕ) (s : State) → IsFilled s.place
     → IsAt (scope_trees s.place) s.scope_span (sign_position text (erased_ahead s.place))
@@ -243,8 +183,7 @@ sign_at (c ∷ cs) s i =
 
 sign_told : (text : List ℕ) (s : State) (f : Fault) → Refuses (punctuation_message text s) f
     → SaysAt s (sign_missing text (erased_ahead s.place)) f
-sign_told text s (Refused e) h i = (punctuation_span text s, sign_at text s i, h)
-sign_told text s (Memory e) h i = tt
+sign_told text s f h i = grind (arith, sign_at)
 
 -- how a token is parsed
 abbrev pub TokenParses : {A : Type 0} → Kind A → Call A

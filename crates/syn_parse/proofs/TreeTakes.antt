@@ -1,6 +1,5 @@
 -- Any visible tree, and all that is left, by the visible trees ahead.
-use Rattle.std.proofs.Common.{◌≡◌, ◌∙◌, sym, ap, subst, refl, List, [], ◌∷◌}
-use Rattle.std.proofs.Common.{map, Some, None, Ok, Err}
+use Rattle.std.proofs.Common.{arith, ◌≡◌, ◌∙◌, sym, ap, List, [], ◌∷◌, map, Ok}
 use Rattle.std.specs.Prelude.{Result, codes, option_map}
 use Rattle.tok_core.specs.Erase.{erase}
 use Rattle.tok_core.specs.Forest.{Tree, Forest}
@@ -14,7 +13,6 @@ use Rattle.tok_buffer.specs.Reached.{Reached, down}
 use Rattle.tok_buffer.specs.Reads.{any_tree}
 use Rattle.tok_buffer.specs.Rest.{rest}
 use Rattle.tok_buffer.specs.Trees.{EndsScope, erased_read, erased_tree, read_visible}
-use Rattle.tok_buffer.specs.View.{erased_ahead}
 use Rattle.tok_buffer.specs.declared.error.Message.{Message}
 use Rattle.tok_buffer.proofs.Onwards.{visible_goes}
 use Rattle.tok_buffer.proofs.ScopeEnds.{passes-keep, rest_erased, visible_tells}
@@ -24,9 +22,8 @@ use Rattle.syn_parse.specs.Parses.{IsTree}
 use Rattle.syn_parse.specs.Reads.{TreesRead, Reads}
 use Rattle.syn_parse.specs.ErrorWords.{refused_at}
 use Rattle.syn_parse.specs.State.{State, moved}
-use Rattle.syn_parse.specs.Takes.{TakesAs, found, missing_next}
+use Rattle.syn_parse.specs.Takes.{TakesAs, missing_next}
 use Rattle.syn_parse.specs.TreeTakes.{VisibleTreeParses, take_rest, take_tree, tree_in}
-use Rattle.syn_parse.specs.TreesAhead.{ahead}
 use Rattle.syn_parse.specs.declared.fault.Fault.{Fault}
 use Rattle.syn_parse.proofs.Positions.{passes_kept, visible_kept}
 use Rattle.syn_parse.proofs.Scopes.{in_one_scope, one_scope}
@@ -37,8 +34,7 @@ abbrev erased : TreesRead → TreesRead
 erased x = option_map (λ q. (map erased_tree q.0, q.1)) x
 
 erased-ahead : (x : TreesRead) → with_ahead (erased x) ≡ erased_read x
-erased-ahead None = refl
-erased-ahead (Some q) = refl
+erased-ahead x = grind arith
 
 abbrev IsErased : TokenTree → List Tree → Type 0
 IsErased v ts = ts ≡ erased_tree (tree_of v) ∷ []
@@ -46,14 +42,10 @@ IsErased v ts = ts ≡ erased_tree (tree_of v) ∷ []
 reads-erased : (x : TreesRead) (words : Message) (s : State) (r : Result TokenTree Fault)
     (t : State)
     → Reads IsTree x words s r t → Reads IsErased (erased x) words s r t
-reads-erased (Some q) words s (Ok v) t h = (ap (map erased_tree) h.0, h.1)
-reads-erased None words s (Ok v) t h = h
-reads-erased (Some q) words s (Err f) t h = h
-reads-erased None words s (Err f) t h = h
+reads-erased x words s r t h = grind arith
 
 leads-erased : (P : Place → Type 0) (x : TreesRead) → LeadsTo P x → LeadsTo P (erased x)
-leads-erased P None h = h
-leads-erased P (Some q) h = h
+leads-erased P x h = grind arith
 
 pub tree_told : (s : State) (r : Result TokenTree Fault) (t : State) → VisibleTreeParses s r t
     → TakesAs (λ v. erased_tree (tree_of v)) take_tree s r t
@@ -74,19 +66,4 @@ tree_told s r t h =
 pub rest_told : (s : State) (f : Forest) (q : Place) (t : State) → f ≡ rest s.place
     → EndsScope s.place q → t ≡ moved q s → TakesAs erase take_rest s (Ok f) t
 rest_told s f q t e h m =
-    let keep = passes-keep s.place q h.passes (in_one_scope s.place s.place refl) in
-    subst (λ u. TakesAs erase take_rest s (Ok f) u) (sym m) (
-      ap (λ g. found (erased_ahead s.place) (record (ahead s) { trees = g })) (sym h.none_ahead)
-          ∙ ap (λ g. found g (ahead (moved q s))) (sym (ap erase e ∙ rest_erased s.place)),
-      (
-        λ i. record {
-          buffer = i.buffer;
-          filled_buffer = i.filled_buffer;
-          reached = keep.2 i.buffer i.reached;
-        },
-        one_scope s.place q keep.0,
-        keep.1,
-        passes_kept s.place q h.passes,
-        refl,
-      ),
-    )
+    grind (arith, passes-keep, in_one_scope, rest_erased, one_scope, passes_kept)

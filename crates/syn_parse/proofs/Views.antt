@@ -1,5 +1,5 @@
 -- Errors and peeks at places with equal views.
-use Rattle.std.proofs.Common.{◌≡◌, ◌∙◌, sym, ap, refl, ℕ, Bool, List, ◌++◌, Option, Some, None}
+use Rattle.std.proofs.Common.{arith, ◌≡◌, ◌∙◌, sym, refl, ℕ, Bool, List, ◌++◌, Option, Some, None}
 use Rattle.std.specs.Prelude.{IfSome, codes, option_map}
 use Rattle.tok_core.specs.Forest.{Tree}
 use Rattle.tok_buffer.specs.Buffer.{Laid}
@@ -12,7 +12,6 @@ use Rattle.tok_buffer.proofs.View.Laws.{calls_lead_on, views_decide}
 use Rattle.tok_types.specs.Views.{IgnoresInvisible}
 use Rattle.tok_types.specs.Texts.{in_backquotes}
 use Rattle.syn_parse.specs.Views.{ViewsDecideWords, ViewsDecideLookaheads}
-use Rattle.syn_parse.specs.Lookahead.{look_message}
 use Rattle.syn_parse.specs.Reads.{Peeks2, Peeks3, PeeksPast}
 use Rattle.syn_parse.specs.ErrorWords.{ident_words, lifetime_words, name_in}
 use Rattle.syn_parse.proofs.SameWords.{alike-at_stream, alike-look}
@@ -25,12 +24,7 @@ same-words : (b c : Laid) (words : Option (List Tree × Place) → List ℕ) (so
     → ((r : List Tree × Place) → words (Some r) ≡ some r.0)
     → (r q : Option (List Tree × Place)) → with_view b.forest r ≡ with_view c.forest q
     → words r ≡ words q
-same-words b c words some e None None h = refl
-same-words b c words some e None (Some q) h = absurd (cc)
-same-words b c words some e (Some r) None h = absurd (cc)
-same-words b c words some e (Some r) (Some q) h =
-    e r ∙ ap some (ap (λ x. x.0) (some_same (r.0, view b.forest r.1) (q.0, view c.forest q.1) h))
-    ∙ sym (e q)
+same-words b c words some e r q h = grind (arith, some_same)
 
 pub views_decide_words : ViewsDecideWords
 views_decide_words b c s t v =
@@ -53,12 +47,7 @@ views_decide_words b c s t v =
     }
 
 pub views_decide_lookaheads : ViewsDecideLookaheads
-views_decide_lookaheads b c l m v h =
-    alike-look b c l.missed l.place m.place l.scope_span m.scope_span v
-    ∙ ap
-    (λ missed.
-    (look_message
-    (record { place = m.place; scope_span = m.scope_span; missed = missed })).text) h
+views_decide_lookaheads b c l m v h = grind (arith, alike-look)
 
 -- Invisible groups do not matter to a peek after the next token where they do not matter to the
 -- peek

@@ -1,9 +1,8 @@
 -- A token and a value after it, if the token is next.
+use Rattle.std.proofs.Common.{arith}
 use Rattle.std.specs.Prelude.{Bool, Option, None, Some, option_map}
 use Rattle.tok_core.specs.Forest.{Forest}
-use Rattle.syn_parse.specs.Lighter.{lessens_bind, lessens_where, lightens_gives}
-use Rattle.syn_parse.specs.Nested.{Descends, descends_after, descends_bind, descends_same}
-use Rattle.syn_parse.specs.Nested.{descends_where}
+use Rattle.syn_parse.specs.Nested.{Descends}
 use Rattle.syn_parse.specs.Takes.{Taking, ◌>>=◌, gives, where_ahead}
 use Rattle.syn_parse.specs.Takings.{Lightens, Lowers, Takings, stated, told, unweighed, untold}
 use Rattle.syn_parse.specs.TreesAhead.{Ahead}
@@ -21,21 +20,14 @@ take_after test token take =
 pub lightens_after : {A B : Type 0} (test : Ahead → Bool) (token : Taking A) (take : Taking B)
     → Lightens token → Lightens take → Lightens (take_after test token take)
 unfolding take_after
-lightens_after test token take h k =
-    lessens_where test _ _
-    (lessens_bind token _ h (λ p. lessens_bind take _ k (λ v. lightens_gives (Some (p, v)))))
-    (lightens_gives None)
+lightens_after test token take h k = grind arith
 
 -- a token and a value: the token takes something, so less is ahead of the value
 pub descends_after_token : {A B P : Type 0} (test : Ahead → Bool) (token : Taking P)
     (take : Taking A → Taking B) → Lowers token → Descends 1 take
     → Descends 0 (λ m. take_after test token (take m))
 unfolding take_after
-descends_after_token test token take h k =
-    descends_where 0 test _ _
-    (descends_after token _ h
-    (λ p. descends_bind 1 take _ k (λ v. descends_same 1 _ (lightens_gives (Some (p, v))))))
-    (descends_same 0 _ (lightens_gives None))
+descends_after_token test token take h k = grind arith
 
 -- a token and a value, by what the types of both state
 abbrev pub after : {P T : Type 0} → Option (Forest → Bool) → Takings P → Takings T

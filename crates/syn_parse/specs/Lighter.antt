@@ -1,28 +1,21 @@
 -- What is taken makes what is ahead weigh less, or no more.
-use Rattle.std.proofs.Common.{◌≡◌, ◌∙◌, sym, ap, subst, refl, arith, ℕ, ◌+◌, ◌<◌, ◌||◌, Bool, true}
-use Rattle.std.proofs.Common.{false, if◌then◌else◌}
+use Rattle.std.proofs.Common.{◌≡◌, ap, subst, refl, arith, ℕ, ◌+◌, ◌<◌, ◌||◌, Bool, true, false}
 use Rattle.std.proofs.Common.{List, [], ◌∷◌, ◌++◌, Option, Some, None}
 use Rattle.std.proofs.lemmas.Bool.{false≢true}
-use Rattle.std.specs.Prelude.{bytes_eq}
 use Rattle.tok_lexical.specs.declared.delimiter.Delimiter.{Delimiter}
-use Rattle.tok_lexical.specs.declared.delimiter.Delimiter.TheVariants.{Parenthesis, Brace, Bracket}
-use Rattle.tok_lexical.specs.declared.delimiter.Delimiter.TheVariants as delimiter
-use Rattle.tok_leaves.specs.declared.span.DelimSpan.{DelimSpan}
 use Rattle.tok_leaves.specs.declared.span.Span.{Span}
-use Rattle.tok_core.specs.Forest.{Tree, leaf, group, Forest, no_trees, tree}
+use Rattle.tok_core.specs.Forest.{Tree, leaf, group, Forest, tree}
 use Rattle.tok_core.specs.Weight.{weight, tree_weight}
-use Rattle.tok_core.specs.Clear.{is_joint_apostrophe}
 use Rattle.tok_buffer.specs.EachRead.{and_first, first_if, first_keyword, first_lifetime}
 use Rattle.tok_buffer.specs.EachRead.{first_puncts}
-use Rattle.tok_buffer.specs.Entry.{same_delimiter, EnteredWith}
+use Rattle.tok_buffer.specs.Entry.{EnteredWith}
 use Rattle.tok_buffer.specs.InFront.{first_group}
-use Rattle.tok_buffer.specs.Reads.{is_ident_of, is_joint_of, is_punct_of}
+use Rattle.tok_buffer.specs.Reads.{is_joint_of, is_punct_of}
 use Rattle.syn_parse.specs.Positions.{Missing}
 use Rattle.syn_parse.specs.TreesAhead.{Ahead}
-use Rattle.syn_parse.specs.Takings.{Less, Lessens, Lightens, Lowers}
-use Rattle.syn_parse.specs.Takes.{Outcome, Taking, ◌>>=◌, after_inside, and_then, found, gives}
-use Rattle.syn_parse.specs.Takes.{inside_first, missing, read_as, refuses, refuses_at}
-use Rattle.syn_parse.specs.Takes.{take_by, take_group, where_ahead}
+use Rattle.syn_parse.specs.Takings.{Lessens, Lightens, Lowers}
+use Rattle.syn_parse.specs.Takes.{Taking, ◌>>=◌, gives, refuses, refuses_at, take_by, take_group}
+use Rattle.syn_parse.specs.Takes.{where_ahead}
 use Rattle.syn_parse.specs.Tokens.{Kind, any_ident, any_lifetime, ident, keyword, lifetime, literal}
 use Rattle.syn_parse.specs.Tokens.{own, punct, punctuation, take_token}
 
@@ -32,8 +25,7 @@ lightens_lower take h = record { less = λ a b v e. omega (arith, h.less a b v e
 
 -- a parser adds nothing if either is known of it
 pub lightens : (strict : Bool) {A : Type 0} (take : Taking A) → Lessens strict take → Lightens take
-lightens false take h = h
-lightens true take h = lightens_lower take h
+lightens strict take h = grind (arith, lightens_lower)
 
 -- a value that takes no tree adds nothing to what is ahead
 pub lightens_gives : {A : Type 0} (v : A) → Lightens (gives v)
@@ -49,24 +41,11 @@ pub lessens_refuses_at : {strict : Bool} {A : Type 0} (span : Span) (words : Lis
     → Lessens strict {A = A} (refuses_at span words)
 lessens_refuses_at span words = record { less = λ a b w e. absurd (cc) }
 
--- two steps lessen a number if one of them does, and the other does not add to it
-less_less : (x y : Bool) (n m k : ℕ) → Less x m n → Less y k m → Less (x || y) k n
-less_less false false n m k h g = omega (arith, h, g)
-less_less false true n m k h g = omega (arith, h, g)
-less_less true false n m k h g = omega (arith, h, g)
-less_less true true n m k h g = omega (arith, h, g)
-
 -- two parsers in turn take something if one does and the other adds nothing; they add nothing if
 -- neither does
 pub lessens_then : (x y : Bool) {A B : Type 0} (m : Taking A) (k : A → Taking B) → Lessens x m
     → ((v : A) → Lessens y (k v)) → Lessens (x || y) (m >>= k)
-lessens_then x y {A} {B} m k h g = record { less = λ a b w e. go a b w (m a) refl e } where
-  go : (a b : Ahead) (w : B) (o : Outcome A) → m a ≡ o → and_then o k ≡ found w b
-      → Less (x || y) (weight b.trees) (weight a.trees)
-  go a b w (missing m) e f = absurd (cc)
-  go a b w (found v c) e f =
-      less_less x y (weight a.trees) (weight c.trees) (weight b.trees) (h.less a c v e)
-      ((g v).less c b w f)
+lessens_then x y {A} {B} m k h g = grind arith
 
 -- two parsers in turn take something if the first does, and the second adds nothing
 pub lessens_bind : {strict : Bool} {A B : Type 0} (m : Taking A) (k : A → Taking B)
@@ -77,11 +56,7 @@ lessens_bind {strict = true} m k h g = lessens_then true false m k h g
 -- a choice takes something if both branches do; it adds nothing if neither branch does
 pub lessens_where : {strict : Bool} {A : Type 0} (test : Ahead → Bool) (m n : Taking A)
     → Lessens strict m → Lessens strict n → Lessens strict (where_ahead test m n)
-lessens_where {strict} {A} test m n h g = record { less = λ a b w e. go a b w (test a) e } where
-  go : (a b : Ahead) (w : A) (c : Bool) → (if c then m a else n a) ≡ found w b
-      → Less strict (weight b.trees) (weight a.trees)
-  go a b w true e = h.less a b w e
-  go a b w false e = g.less a b w e
+lessens_where {strict} {A} test m n h g = grind arith
 
 -- a read of trees, with the trees after them
 abbrev Reading : Type 0
@@ -102,17 +77,11 @@ some-rest {A} {B} {x} {y} e = let k : x ≡ y = cc in ap (λ p. p.1) k
 
 -- less is left after the first tree
 pub if-shorter : (wanted : Tree → Bool) → Shorter (first_if wanted)
-if-shorter wanted no_trees r e = absurd (cc)
-if-shorter wanted (tree t f) r e = go (wanted t) e where
-  go : (b : Bool) → (if b then Some (t ∷ [], f) else None) ≡ Some r
-      → weight r.1 < weight (tree t f)
-  go true e = subst (λ g. weight g < weight (tree t f)) (some-rest e) (omega (arith, tree-counts t))
-  go false e = absurd (cc)
+if-shorter wanted h r e = grind (arith, some-rest, tree-counts)
 
 -- less is left after a keyword
 word-shorter : (text : List ℕ) → Shorter (first_keyword text)
-word-shorter [] f r e = absurd (cc)
-word-shorter (c ∷ cs) f r e = if-shorter (is_ident_of (bytes_eq (c ∷ cs))) f r e
+word-shorter text f r e = grind (arith, if-shorter)
 
 -- less is left after two reads
 and-shorter : (f : Forest) (g : Reading) → Shorter g → (x : Option (List Tree × Forest))
@@ -136,20 +105,12 @@ puncts-shorter (c ∷ (d ∷ cs)) f r e =
 
 -- less is left after a lifetime
 lifetime-shorter : (wanted : List ℕ → Bool) → Shorter (first_lifetime wanted)
-lifetime-shorter wanted f r e =
-    and-shorter f (first_if (is_ident_of wanted)) (if-shorter _) (first_if is_joint_apostrophe f)
-    (λ q k. if-shorter is_joint_apostrophe f q k) r e
+lifetime-shorter wanted f r e = grind (arith, and-shorter, if-shorter)
 
 -- a parser of a read takes something if less is left after the read
 pub by-lowers : {T : Type 0} (read : Reading) (means : List Tree → T) (lack : Forest → Missing)
     → Shorter read → Lowers (take_by read means lack)
-by-lowers {T} read means lack h = record { less = λ a b v e. go a b v (read a.trees) refl e } where
-  go : (a b : Ahead) (v : T) (x : Option (List Tree × Forest)) → read a.trees ≡ x
-      → read_as means lack a x ≡ found v b → weight b.trees < weight a.trees
-  go a b v None k e = absurd (cc)
-  go a b v (Some r) k e =
-      let m : record { trees = r.1; unread = a.unread } ≡ b = cc in
-      subst (λ (c : Ahead). weight c.trees < weight a.trees) m (h a.trees r k)
+by-lowers {T} read means lack h = grind arith
 
 -- a parse of a token takes something
 pub lowers_token : {A : Type 0} (t : Kind A) → Lowers (take_token t)
@@ -168,60 +129,20 @@ lowers_token (punctuation k n) = by-lowers _ _ _ (puncts-shorter _)
 pub lightens_token : {A : Type 0} (t : Kind A) → Lightens (take_token t)
 lightens_token t = lightens_lower (take_token t) (lowers_token t)
 
--- delimiters that are compared as equal are equal
-same_is : (d c : Delimiter) → same_delimiter d c ≡ true → c ≡ d
-same_is Parenthesis Parenthesis h = refl
-same_is Brace Brace h = refl
-same_is Bracket Bracket h = refl
-same_is delimiter.None delimiter.None h = refl
-same_is d c h = absurd (false≢true h)
-
 -- the first group is the first tree, and has the delimiter that is asked for
 pub group_is_first : (d : Delimiter) (f : Forest) (e : EnteredWith Forest)
     → first_group d f ≡ Some e → (f ≡ tree (group d e.content e.span) e.after) × (e.delimiter ≡ d)
-group_is_first d no_trees e h = absurd (cc)
-group_is_first d (tree (leaf l) f) e h = absurd (cc)
-group_is_first d (tree (group c inside span) f) e h = go (same_delimiter d c) refl h where
-  go : (b : Bool) → same_delimiter d c ≡ b
-      → (if b then Some (record { delimiter = c; span = span; content = inside; after = f })
-      else None)
-      ≡ Some e
-      → (tree (group c inside span) f ≡ tree (group d e.content e.span) e.after)
-      × (e.delimiter ≡ d)
-  go true k m =
-      let x : record { delimiter = c; span = span; content = inside; after = f } ≡ e = cc in (
-        ap (λ z. tree (group z inside span) f) (same_is d c k)
-            ∙ ap (λ (y : EnteredWith Forest). tree (group d y.content y.span) y.after) x,
-        ap (λ (y : EnteredWith Forest). y.delimiter) (sym x) ∙ same_is d c k,
-      )
-  go false k m = absurd (cc)
+group_is_first d f e h = grind (arith, false≢true)
 
 -- a group weighs more than what is inside and what is after it
 pub group_weighs : (d : Delimiter) (f : Forest) (e : EnteredWith Forest) → first_group d f ≡ Some e
     → weight e.content + weight e.after < weight f
-group_weighs d f e h =
-    subst (λ g. weight e.content + weight e.after < weight g) (sym (group_is_first d f e h).0)
-    (omega arith)
+group_weighs d f e h = grind (arith, group_is_first)
 
 -- a parser of a group takes something, even if the group is empty
 pub lowers_group : {A : Type 0} (d : Delimiter) (inner : Taking A) → Lowers (take_group d inner)
 unfolding take_group
-lowers_group {A} d inner =
-    record { less = λ a b v e. go a b v (first_group d a.trees) refl e } where
-      inside : (a b : Ahead) (v : DelimSpan × A) (x : EnteredWith Forest) (o : Outcome A)
-          → after_inside a x o ≡ found v b → x.after ≡ b.trees
-      inside a b v x (missing m) e = absurd (cc)
-      inside a b v x (found w c) e = ap (λ (y : Ahead). y.trees) (second e) where
-        second : {B : Type 0} {p q : B} {y z : Ahead} → found p y ≡ found q z → y ≡ z
-        second k = cc
-
-      go : (a b : Ahead) (v : DelimSpan × A) (x : Option (EnteredWith Forest))
-          → first_group d a.trees ≡ x
-          → inside_first d inner a x ≡ found v b → weight b.trees < weight a.trees
-      go a b v None k e = absurd (cc)
-      go a b v (Some x) k e =
-          subst (λ f. weight f < weight a.trees) (inside a b v x _ e)
-          (omega (arith, group_weighs d a.trees x k))
+lowers_group {A} d inner = grind (arith, group_weighs)
 
 -- a parse of a group adds nothing to what is ahead
 pub lightens_group : {A : Type 0} (d : Delimiter) (inner : Taking A) → Lightens (take_group d inner)

@@ -1,13 +1,12 @@
 -- Values of one kind, one after another, by the visible trees ahead.
+use Rattle.std.proofs.Common.{arith, ◌≡◌}
 use Rattle.std.specs.Prelude.{ℕ, zero, suc, Bool, List, [], ◌∷◌, map, not, Option, Some, option_map}
 use Rattle.std.specs.Global.{Vec}
-use Rattle.std.proofs.Common.{◌≡◌}
 use Rattle.tok_core.specs.Forest.{Forest}
 use Rattle.tok_core.specs.Weight.{weight}
 use Rattle.syn_parse.specs.Lighter.{lessens_refuses, lightens_gives}
-use Rattle.syn_parse.specs.Nested.{Descends, descends_after, descends_bind, descends_same}
-use Rattle.syn_parse.specs.Nested.{descends_self, descends_where, levels, lightens_nested}
-use Rattle.syn_parse.specs.Nested.{nested_again, take_nested}
+use Rattle.syn_parse.specs.Nested.{Descends, descends_bind, descends_same, descends_where, levels}
+use Rattle.syn_parse.specs.Nested.{lightens_nested, nested_again, take_nested}
 use Rattle.syn_parse.specs.Takes.{Taking, ◌>>=◌, gives, refuses, where_ahead}
 use Rattle.syn_parse.specs.Takings.{Lightens, Lowers, Takings, lighter, lower, stated, told_filled}
 use Rattle.syn_parse.specs.Takings.{untold}
@@ -33,12 +32,7 @@ take_to_end take = take_many (λ a. not (is_spent a)) take
 module _ {A : Type 0} (test : Ahead → Bool) (take : Taking A) (less : Lowers take) where
   -- values ask no more of more values than that these are read from less
   many_descends : Descends 0 (many_step test take)
-  many_descends =
-      descends_where 0 test _ _
-      (descends_after take (λ m v. m >>= (λ vs. gives (v ∷ vs))) less
-      (λ v. descends_bind 1 (λ m. m) (λ m vs. gives (v ∷ vs)) descends_self
-      (λ vs. descends_same 1 (gives (v ∷ vs)) (lightens_gives (v ∷ vs)))))
-      (descends_same 0 (gives []) (lightens_gives []))
+  many_descends = grind arith
 
   -- values that each take something: the first one, and then more
   pub many_again : (a : Ahead) → take_many test take a ≡ many_step test take (take_many test take) a

@@ -1,19 +1,14 @@
 -- Values that hold values of their own kind: how they are taken, by what is taken within them.
-use Rattle.std.proofs.Common.{◌≡◌, ◌∙◌, ap, refl, arith, ℕ, zero, suc, ◌+◌, ◌*◌, ◌<◌, Bool}
-use Rattle.std.proofs.Common.{if◌then◌else◌, Option, Some, None, []}
+use Rattle.std.proofs.Common.{◌≡◌, ◌∙◌, ap, refl, arith, ℕ, zero, suc, ◌+◌, ◌*◌, ◌<◌, Bool, []}
 use Rattle.tok_lexical.specs.declared.delimiter.Delimiter.{Delimiter}
 use Rattle.tok_core.specs.Weight.{weight}
-use Rattle.tok_core.specs.Forest.{Forest}
-use Rattle.tok_buffer.specs.Entry.{EnteredWith}
-use Rattle.tok_buffer.specs.InFront.{first_group}
 use Rattle.tok_buffer.specs.Progress.{remaining}
-use Rattle.syn_parse.specs.Lighter.{group_weighs, lessens_bind, lessens_where, lightens_group}
-use Rattle.syn_parse.specs.Lighter.{lightens_lower, lowering}
+use Rattle.syn_parse.specs.Lighter.{group_weighs, lessens_bind, lightens_lower, lowering}
 use Rattle.syn_parse.specs.State.{State}
-use Rattle.syn_parse.specs.Takes.{Outcome, Taking, found, missing, and_then, ◌>>=◌, where_ahead}
-use Rattle.syn_parse.specs.Takes.{after_inside, inside_first, refuses, take_group}
+use Rattle.syn_parse.specs.Takes.{Outcome, Taking, found, and_then, ◌>>=◌, where_ahead, refuses}
+use Rattle.syn_parse.specs.Takes.{take_group}
 use Rattle.syn_parse.specs.Takings.{Lightens, Lowers}
-use Rattle.syn_parse.specs.TreesAhead.{Ahead, only_trees}
+use Rattle.syn_parse.specs.TreesAhead.{Ahead}
 
 -- two parsers take equal values of everything that weighs less than this
 abbrev pub SameBelow : {A : Type 0} → ℕ → (m n : Taking A) → Type 0
@@ -32,10 +27,7 @@ descends_self = record { light = λ m l. l; same = λ m n k l a h. h a (omega ar
 
 -- a parser that needs no slack may have it
 pub descends_less : {A B : Type 0} (step : Taking A → Taking B) → Descends 0 step → Descends 1 step
-descends_less step i = record {
-  light = i.light;
-  same = λ m n k l a h. i.same m n k l a (λ b w. h b (omega (arith, w)));
-}
+descends_less step i = grind arith
 
 -- a parser that isn't made of the other one may have any slack
 pub descends_same : (slack : ℕ) {A B : Type 0} (take : Taking B) → Lightens take
@@ -45,8 +37,7 @@ descends_same slack take l = record { light = λ m k. l; same = λ m n k l a h. 
 -- two ways on from what is found
 on_found : {B C : Type 0} (o : Outcome B) (f g : B → Ahead → Outcome C)
     → ((v : B) (b : Ahead) → o ≡ found v b → f v b ≡ g v b) → and_then o f ≡ and_then o g
-on_found (found v b) f g h = h v b refl
-on_found (missing m) f g h = refl
+on_found o f g h = grind arith
 
 -- two parsers in turn need no more slack than each of them
 pub descends_bind : (slack : ℕ) {A B C : Type 0} (step : Taking A → Taking B)
@@ -73,28 +64,13 @@ descends_after token k h g = record {
 -- a choice needs no more slack than each of its branches
 pub descends_where : (slack : ℕ) {A B : Type 0} (test : Ahead → Bool) (f g : Taking A → Taking B)
     → Descends slack f → Descends slack g → Descends slack (λ m. where_ahead test (f m) (g m))
-descends_where slack test f g h k = record {
-  light = λ m l. lessens_where test (f m) (g m) (h.light m l) (k.light m l);
-  same = λ m n l j a e.
-      ap (λ o. if test a then o else g m a) (h.same m n l j a e)
-      ∙ ap (λ o. if test a then f n a else o) (k.same m n l j a e);
-}
+descends_where slack test f g h k = grind arith
 
 -- within a group less is ahead
 pub descends_group : {A B : Type 0} (d : Delimiter) (inner : Taking A → Taking B)
     → Descends 1 inner → Descends 0 (λ m. take_group d (inner m))
 unfolding take_group
-descends_group {A} d inner h = record {
-  light = λ m l. record { less = λ a b v e. (lightens_group d (inner m)).less a b v e };
-  same = λ m n l j a e. go m n l j a e (first_group d a.trees) refl;
-} where
-  go : (m n : Taking A) → Lightens m → Lightens n → (a : Ahead) → SameBelow (weight a.trees + 0) m n
-      → (x : Option (EnteredWith Forest)) → first_group d a.trees ≡ x
-      → inside_first d (inner m) a x ≡ inside_first d (inner n) a x
-  go m n l j a e None k = refl
-  go m n l j a e (Some x) k =
-      ap (after_inside a x) (h.same m n l j (only_trees x.content)
-      (λ b u. e b (omega (arith, u, group_weighs d a.trees x k))))
+descends_group {A} d inner h = grind (arith, group_weighs)
 
 -- with these `search` proves it of what is built of tokens, groups and the parser itself
 pub ruleset descending = (
@@ -131,8 +107,7 @@ module _ {A : Type 0} (step : Taking A → Taking A) (inwards : Descends 0 step)
   -- a nested value adds nothing to what is ahead
   pub lightens_nested : Lightens (take_nested step)
   unfolding take_nested
-  lightens_nested =
-      record { less = λ a b v e. (lightens_levels (suc (weight a.trees))).less a b v e }
+  lightens_nested = grind (arith, lightens_levels)
 
   -- more levels than there are change nothing
   enough : (n m : ℕ) (a : Ahead) → weight a.trees < n → weight a.trees < m
@@ -146,15 +121,9 @@ module _ {A : Type 0} (step : Taking A → Taking A) (inwards : Descends 0 step)
   -- a nested value is a step around nested values
   pub nested_again : (a : Ahead) → take_nested step a ≡ step (take_nested step) a
   unfolding take_nested
-  nested_again a =
-      inwards.same (levels (weight a.trees) step) (λ b. levels (suc (weight b.trees)) step b)
-      (lightens_levels (weight a.trees)) lightens_nested a
-      (λ b w. enough (weight a.trees) (suc (weight b.trees)) b (omega (arith, w)) (omega arith))
+  nested_again a = grind (arith, lightens_levels, lightens_nested, enough)
 
   -- a nested value takes something, if each level does
   pub lowers_nested : ((m : Taking A) → Lightens m → Lowers (step m)) → Lowers (take_nested step)
   unfolding take_nested
-  lowers_nested each = record {
-    less = λ a b v e.
-        (each (levels (weight a.trees) step) (lightens_levels (weight a.trees))).less a b v e;
-  }
+  lowers_nested each = grind (arith, lightens_levels)

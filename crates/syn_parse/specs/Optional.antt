@@ -1,8 +1,9 @@
 -- A value that is taken if its peek is true, and else nothing.
+use Rattle.std.proofs.Common.{arith}
 use Rattle.std.specs.Prelude.{ℕ, Bool, Option, None, Some, option_map}
 use Rattle.tok_core.specs.Forest.{Forest}
-use Rattle.syn_parse.specs.Lighter.{lessens_bind, lessens_where, lightens, lightens_gives}
-use Rattle.syn_parse.specs.Nested.{Descends, descends_bind, descends_same, descends_where}
+use Rattle.syn_parse.specs.Lighter.{lightens}
+use Rattle.syn_parse.specs.Nested.{Descends}
 use Rattle.syn_parse.specs.Takes.{Taking, ◌>>=◌, gives, where_ahead}
 use Rattle.syn_parse.specs.Takings.{Lightens, Takings, Weighs, lighter, stated, untold, unweighed}
 use Rattle.syn_parse.specs.Takings.{weighs}
@@ -19,20 +20,14 @@ take_optional test take =
 pub lightens_optional : {A : Type 0} (test : Ahead → Bool) (take : Taking A) → Lightens take
     → Lightens (take_optional test take)
 unfolding take_optional
-lightens_optional test take h =
-    lessens_where test _ _
-    (lessens_bind take _ h (λ v. lightens_gives (Some v)))
-    (lightens_gives None)
+lightens_optional test take h = grind arith
 
 -- an option asks no more of the parser that it is made of than its value does
 pub descends_optional : (slack : ℕ) {A B : Type 0} (test : Ahead → Bool)
     (take : Taking A → Taking B) → Descends slack take
     → Descends slack (λ m. take_optional test (take m))
 unfolding take_optional
-descends_optional slack test take h =
-    descends_where slack test _ _
-    (descends_bind slack take _ h (λ v. descends_same slack _ (lightens_gives (Some v))))
-    (descends_same slack _ (lightens_gives None))
+descends_optional slack test take h = grind arith
 
 -- an option adds nothing if its value doesn't; it may take nothing even if its value never does
 abbrev pub optional_weighs : {A : Type 0} (test : Ahead → Bool) (take : Taking A) → Weighs take

@@ -9,7 +9,6 @@ use Rattle.tok_buffer.specs.Trees.{read_visible}
 use Rattle.syn_parse.specs.Lighter.{lessens_bind, lightens_gives}
 use Rattle.syn_parse.specs.Takes.{Taking, ◌>>=◌, found, gives}
 use Rattle.syn_parse.specs.Takings.{Lightens}
-use Rattle.syn_parse.specs.TreesAhead.{Ahead}
 
 -- a tree and those of the run after it, if the run goes on from this state
 abbrev pub onwards : {S : Type 0} → S → Tree → Forest → Option (Forest × Forest × S)
@@ -57,15 +56,7 @@ passing-lightens {S} step s (tree t f) =
 pub lightens_run_with_state : {S : Type 0} (step : S → Forest → Option S) (s : S)
     → Lightens (take_run_with_state step s)
 unfolding take_run_with_state
-lightens_run_with_state {S} step s = record { less = λ a b v e. go a b v e } where
-  go : (a b : Ahead) (v : Forest × S)
-      → found ((passing step s a.trees).0, (passing step s a.trees).2)
-      (record a { trees = (passing step s a.trees).1 })
-      ≡ found v b
-      → weight b.trees ≤ weight a.trees
-  go a b v e =
-      let k : record a { trees = (passing step s a.trees).1 } ≡ b = cc in
-      rw (← k) (passing-lightens step s a.trees)
+lightens_run_with_state {S} step s = grind (arith, passing-lightens)
 
 -- a parser of a run adds nothing to what is ahead
 pub lightens_run : {S : Type 0} (step : S → Forest → Option S) (s : S)

@@ -1,6 +1,7 @@
 -- Values of two or three types, one after another, by the visible trees ahead.
+use Rattle.std.proofs.Common.{arith}
 use Rattle.std.specs.Prelude.{Bool, true, false, ◌||◌}
-use Rattle.syn_parse.specs.Lighter.{lessens_bind, lessens_then, lightens_gives}
+use Rattle.syn_parse.specs.Lighter.{lessens_then}
 use Rattle.syn_parse.specs.Takes.{Taking, ◌>>=◌, gives}
 use Rattle.syn_parse.specs.Takings.{Lessens, Lightens, Lowers, Takings, Weighs, stated, unweighed}
 use Rattle.syn_parse.specs.Takings.{untold, weighs}
@@ -32,8 +33,7 @@ module _ {A B : Type 0} (first : Taking A) (second : Taking B) where
   pub lessens_both : (x y : Bool) → Lessens x first → Lessens y second
       → Lessens (x || y) (take_both first second)
   unfolding take_both
-  lessens_both x y h k =
-      lessens_then x y first _ h (λ a. lessens_bind second _ k (λ b. lightens_gives (a, b)))
+  lessens_both x y h k = grind arith
 
   -- no more is ahead after two values, if neither adds to it
   pub lightens_both : Lightens first → Lightens second → Lightens (take_both first second)
@@ -58,9 +58,7 @@ module _ {A B C : Type 0} (first : Taking A) (second : Taking B) (third : Taking
   pub lessens_three : (x y z : Bool) → Lessens x first → Lessens y second → Lessens z third
       → Lessens (x || (y || z)) (take_three first second third)
   unfolding take_three
-  lessens_three x y z h k l =
-      lessens_then x (y || z) first _ h (λ a. lessens_then y z second _ k
-      (λ b. lessens_bind third _ l (λ c. lightens_gives (a, b, c))))
+  lessens_three x y z h k l = grind arith
 
   -- no more is ahead after three values, if none of them adds to it
   pub lightens_three : Lightens first → Lightens second → Lightens third

@@ -1,5 +1,5 @@
 -- Any visible tree, and all that is left, by the visible trees ahead.
-use Rattle.std.proofs.Common.{◌≡◌, arith}
+use Rattle.std.proofs.Common.{arith}
 use Rattle.std.specs.Prelude.{List, [], ◌∷◌, codes}
 use Rattle.tok_leaves.specs.Leaves.{ident}
 use Rattle.tok_leaves.specs.Spans.{call_site}
@@ -46,8 +46,4 @@ lightens_tree = lightens_lower take_tree lowers_tree
 
 -- a parser of all trees that are left adds nothing to what is ahead
 pub lightens_rest : Lightens take_rest
-lightens_rest =
-    record {
-      less = λ a b v e.
-          let k : record a { trees = no_trees } ≡ b = cc in rw (← k) (omega arith);
-    }
+lightens_rest = grind arith

@@ -5,8 +5,7 @@ use Rattle.tok_buffer.specs.Reads.{any_text, read_ident, read_lifetime}
 use Rattle.tok_buffer.specs.SameView.{SameView}
 use Rattle.syn_parse.specs.Lookahead.{LookaheadView, look_message}
 use Rattle.syn_parse.specs.State.{State}
-use Rattle.syn_parse.specs.ErrorWords.{ident_words, lifetime_words, punctuation_message}
-use Rattle.syn_parse.specs.ErrorWords.{refused_at}
+use Rattle.syn_parse.specs.ErrorWords.{ident_words, lifetime_words, punctuation_message, refused_at}
 
 -- errors at two streams have equal texts
 pub record WordsAgree (s t : State) : Type 0 where

@@ -1,8 +1,7 @@
-use Rattle.tok_lexical.specs.declared.delimiter.Delimiter.TheVariants.{Bracket}
+use Rattle.std.proofs.Common.{arith}
+use Rattle.std.proofs.lemmas.Grind.{common_steps}
 use Rattle.syn_parse.proofs.GroupTakes.{enters_ahead}
 use Rattle.syn_parse.proofs.group.parse_brackets.Goals as goal
 
 pub returns-clause-takes : goal.returns-clause-takes
-returns-clause-takes c =
-    enters_ahead (λ p. p.token.span) (λ p. p.content) Bracket tt c.args.input.now c.enter.new.input
-    c.enter.result c.enter.ensures
+returns-clause-takes c = grind (arith, common_steps, enters_ahead)

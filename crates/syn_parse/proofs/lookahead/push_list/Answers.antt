@@ -1,4 +1,5 @@
-use Rattle.std.proofs.Common.{◌≡◌, ◌∙◌, ap, sym, ◌∷◌, ◌++◌, ℕ, List, append_assoc}
+use Rattle.std.proofs.Common.{arith, ◌≡◌, ◌∷◌, ◌++◌, ℕ, List}
+use Rattle.std.proofs.lemmas.Grind.{common_steps}
 use Rattle.std.specs.Prelude.{codes}
 use Rattle.syn_parse.specs.Lookahead.{list_words, more_words}
 use Rattle.syn_parse.proofs.lookahead.push_list.Goals as goal
@@ -8,16 +9,7 @@ several : (old one two a b d : List ℕ) (names bs ds es : List (List ℕ))
     → names ≡ a ∷ bs → bs ≡ b ∷ ds → ds ≡ d ∷ es
     → one ≡ old ++ codes "expected one of: " → two ≡ one ++ a
     → old ++ list_words names ≡ two ++ more_words bs
-several old one two a b d names bs ds es first second third front then =
-    let rest : bs ≡ b ∷ (d ∷ es) = second ∙ ap (λ z. b ∷ z) third in
-    let words : list_words names ≡ codes "expected one of: " ++ (a ++ more_words bs) =
-    ap list_words (first ∙ ap (λ z. a ∷ z) rest)
-    ∙ ap (λ z. codes "expected one of: " ++ (a ++ more_words z)) (sym rest) in
-    ap (λ z. old ++ z) words
-    ∙ sym (append_assoc old (codes "expected one of: ") (a ++ more_words bs))
-    ∙ ap (λ z. z ++ (a ++ more_words bs)) (sym front)
-    ∙ sym (append_assoc one a (more_words bs))
-    ∙ ap (λ z. z ++ more_words bs) (sym then)
+several old one two a b d names bs ds es first second third front then = grind (arith, common_steps)
 
 pub returns : goal.returns
 returns c =

@@ -1,10 +1,10 @@
-use Rattle.std.proofs.Common.{◌≡◌, ◌∙◌, ap, sym, subst, ◌++◌, true, false, rules}
+use Rattle.std.proofs.Common.{arith, ◌≡◌, ◌∙◌, ap, sym, subst, ◌++◌, true, false, rules}
+use Rattle.std.proofs.lemmas.Grind.{common_steps}
 use Rattle.std.specs.Prelude.{codes}
 use Rattle.tok_buffer.specs.Cursors.{place_of}
 use Rattle.tok_buffer.specs.Reads.{read_ident}
 use Rattle.tok_types.specs.Texts.{accept_as_ident, in_backquotes}
 use Rattle.syn_parse.specs.Faults.{Refuses}
-use Rattle.syn_parse.specs.Parses.{IsIdent}
 use Rattle.syn_parse.specs.ErrorWords.{refused_at}
 use Rattle.syn_parse.proofs.Names.{ident-none, ident-keyword, ident-value}
 use Rattle.syn_parse.proofs.Reading.{reads-stops}
@@ -42,9 +42,7 @@ returns-in-Some-copied_if_short c =
     (ap read_ident (sym c.cursor.ensures) ∙ c.in-Some.ensures) h)
 
 pub returns-in_err-copy : goal.returns-in_err-copy
-returns-in_err-copy c =
-    reads-stops IsIdent _ c.args.input.now _ c.from_residual.result c.in_err-copy.field-0.0
-    c.from_residual.ensures.1
+returns-in_err-copy c = grind (arith, common_steps, reads-stops)
 
 pub returns : goal.returns
 returns c =

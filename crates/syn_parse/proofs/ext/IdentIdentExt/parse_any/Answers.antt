@@ -1,8 +1,7 @@
-use Rattle.syn_parse.specs.Tokens.{any_ident}
+use Rattle.std.proofs.Common.{arith}
+use Rattle.std.proofs.lemmas.Grind.{common_steps}
 use Rattle.syn_parse.proofs.Told.{token_told}
 use Rattle.syn_parse.proofs.ext.IdentIdentExt.parse_any.Goals as goal
 
 pub returns-clause-takes : goal.returns-clause-takes
-returns-clause-takes c =
-    token_told any_ident c.args.input.now c.any_ident.result c.any_ident.new.input
-    c.any_ident.ensures
+returns-clause-takes c = grind (arith, common_steps, token_told)

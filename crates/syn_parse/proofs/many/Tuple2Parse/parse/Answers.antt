@@ -1,33 +1,18 @@
-use Rattle.std.proofs.Common.{inl, inr, rules, Ok, Err}
+use Rattle.std.proofs.Common.{arith, inl, inr, rules}
+use Rattle.std.proofs.lemmas.Grind.{common_steps}
 use Rattle.syn_parse.proofs.Returned.{error_calls, error_keeps}
 use Rattle.syn_parse.proofs.Sequences.{both_keep}
 use Rattle.syn_parse.specs.Reads.{BothParse, does}
 use Rattle.syn_parse.proofs.many.Tuple2Parse.parse.Goals as goal
 
 pub returns-in_err-first-clause-takes : goal.returns-in_err-first-clause-takes
-returns-in_err-first-clause-takes g c =
-    error_keeps _ c.args.input.now c.parse.new.self c.in_err-first.field-0.0 c.from_residual.result
-    (search rules)
-    (both_keep g.A.Parse.takes g.B.Parse.takes c.args.input.now (Err c.in_err-first.field-0.0)
-    c.parse.new.self (inl c.in_err-first.ensures.takes))
+returns-in_err-first-clause-takes g c = grind (arith, common_steps, error_keeps, both_keep)
 
 pub returns-in_err-second-clause-takes : goal.returns-in_err-second-clause-takes
-returns-in_err-second-clause-takes g c =
-    error_keeps _ c.args.input.now c.parse-2.new.self c.in_err-second.field-0.0
-    c.from_residual-in_err-second.result (search rules)
-    (both_keep g.A.Parse.takes g.B.Parse.takes c.args.input.now (Err c.in_err-second.field-0.0)
-    c.parse-2.new.self (inr (
-      c.in_ok-first.first,
-      c.parse.new.self,
-      c.in_ok-first.ensures.takes,
-      c.in_err-second.ensures.takes,
-    )))
+returns-in_err-second-clause-takes g c = grind (arith, common_steps, error_keeps, both_keep)
 
 pub returns-clause-takes : goal.returns-clause-takes
-returns-clause-takes g c =
-    both_keep g.A.Parse.takes g.B.Parse.takes c.args.input.now
-    (Ok (c.in_ok-first.first, c.in_ok-second.second)) c.parse-2.new.self
-    (c.parse.new.self, c.in_ok-first.ensures.takes, c.in_ok-second.ensures.takes)
+returns-clause-takes g c = grind (arith, common_steps, both_keep)
 
 pub returns-clause-reads : goal.returns-clause-reads
 returns-clause-reads g c = (

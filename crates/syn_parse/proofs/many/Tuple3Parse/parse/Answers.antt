@@ -1,27 +1,15 @@
-use Rattle.std.proofs.Common.{inl, inr, rules, Ok, Err}
+use Rattle.std.proofs.Common.{arith, inl, inr, rules, Err}
+use Rattle.std.proofs.lemmas.Grind.{common_steps}
 use Rattle.syn_parse.proofs.Returned.{error_calls, error_keeps}
 use Rattle.syn_parse.proofs.Sequences.{three_keep}
 use Rattle.syn_parse.specs.Reads.{ThreeParse, does}
 use Rattle.syn_parse.proofs.many.Tuple3Parse.parse.Goals as goal
 
 pub returns-in_err-first-clause-takes : goal.returns-in_err-first-clause-takes
-returns-in_err-first-clause-takes g c =
-    error_keeps _ c.args.input.now c.parse.new.self c.in_err-first.field-0.0 c.from_residual.result
-    (search rules)
-    (three_keep g.A.Parse.takes g.B.Parse.takes g.C.Parse.takes c.args.input.now
-    (Err c.in_err-first.field-0.0) c.parse.new.self (inl c.in_err-first.ensures.takes))
+returns-in_err-first-clause-takes g c = grind (arith, common_steps, error_keeps, three_keep)
 
 pub returns-in_err-second-clause-takes : goal.returns-in_err-second-clause-takes
-returns-in_err-second-clause-takes g c =
-    error_keeps _ c.args.input.now c.parse-2.new.self c.in_err-second.field-0.0
-    c.from_residual-in_err-second.result (search rules)
-    (three_keep g.A.Parse.takes g.B.Parse.takes g.C.Parse.takes c.args.input.now
-    (Err c.in_err-second.field-0.0) c.parse-2.new.self (inr (
-      c.in_ok-first.first,
-      c.parse.new.self,
-      c.in_ok-first.ensures.takes,
-      inl c.in_err-second.ensures.takes,
-    )))
+returns-in_err-second-clause-takes g c = grind (arith, common_steps, error_keeps, three_keep)
 
 pub returns-in_err-third-clause-takes : goal.returns-in_err-third-clause-takes
 returns-in_err-third-clause-takes g c =
@@ -41,13 +29,7 @@ returns-in_err-third-clause-takes g c =
     )))
 
 pub returns-clause-takes : goal.returns-clause-takes
-returns-clause-takes g c =
-    three_keep g.A.Parse.takes g.B.Parse.takes g.C.Parse.takes c.args.input.now
-    (Ok (c.in_ok-first.first, c.in_ok-second.second, c.in_ok-third.third)) c.parse-3.new.self (
-      c.parse.new.self,
-      c.in_ok-first.ensures.takes,
-      (c.parse-2.new.self, c.in_ok-second.ensures.takes, c.in_ok-third.ensures.takes),
-    )
+returns-clause-takes g c = grind (arith, common_steps, three_keep)
 
 pub returns-in_err-first-clause-reads : goal.returns-in_err-first-clause-reads
 returns-in_err-first-clause-reads g c =

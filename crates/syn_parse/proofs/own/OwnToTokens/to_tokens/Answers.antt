@@ -1,6 +1,7 @@
-use Rattle.std.proofs.Common.{◌≡◌, ◌∙◌, sym, ap, subst, Err}
+use Rattle.std.proofs.Common.{arith, ◌≡◌, ◌∙◌, sym, ap, subst, Err}
+use Rattle.std.proofs.lemmas.Grind.{common_steps}
 use Rattle.std.specs.Prelude.{OnErr}
-use Rattle.tok_core.specs.Forest.{AppendsFront, concat, leaf, no_trees, tree}
+use Rattle.tok_core.specs.Forest.{AppendsFront, leaf, no_trees, tree}
 use Rattle.tok_core.proofs.Facts.{concat-none}
 use Rattle.tok_core.proofs.Fronts.{none_appended}
 use Rattle.tok_leaves.specs.Leaves.{ident}
@@ -19,12 +20,7 @@ returns-in-Ok-clause-err g c =
     c.append.new.self c.append.ensures.err)
 
 pub returns-in-Err-Refused-clause-ok : goal.returns-in-Err-Refused-clause-ok
-returns-in-Err-Refused-clause-ok g c =
-    let span = c.args.self.now.span in
-    let e = subst (λ t. own_word t span ≡ no_trees) c.text.ensures
-    (nothing_if_refused c.text.result.now span c.new.result c.new.ensures.takes
-    c.new.ensures.refuses (c.in-Err-Refused.is ∙ ap Err c.in-Err-Refused.field-0-is)) in
-    sym (ap (concat c.args.tokens.now) e ∙ concat-none c.args.tokens.now)
+returns-in-Err-Refused-clause-ok g c = grind (arith, common_steps, nothing_if_refused, concat-none)
 
 pub returns-in-Err-Memory-clause-err : goal.returns-in-Err-Memory-clause-err
 returns-in-Err-Memory-clause-err g c =

@@ -1,8 +1,9 @@
+use Rattle.std.proofs.Common.{arith}
+use Rattle.std.proofs.lemmas.Grind.{common_steps}
 use Rattle.std.specs.Fn.{FnOnceReturnsAtMut}
 use Rattle.tok_buffer.specs.Entry.{enter}
 use Rattle.syn_parse.specs.ErrorWords.{delimiter_words, refused_at}
 use Rattle.syn_parse.specs.Reads.{as_does}
-use Rattle.syn_parse.specs.Takings.{Keeps}
 use Rattle.syn_parse.proofs.GroupTakes.{at-states, group_keeps, runs_by}
 use Rattle.syn_parse.proofs.stream.ParseBuffer.parse_within.Goals as goal
 
@@ -17,8 +18,4 @@ returns-clause-runs g c =
     c.run_within.ensures.runs)
 
 pub returns-clause-takes : goal.returns-clause-takes
-returns-clause-takes g c =
-    group_keeps g.T.Parse.takes (FnOnceReturnsAtMut _ _) c.args.delimiter c.requires c.args.self.now
-    c.run_within.new.self c.run_within.result
-    (λ x y z h. at-states (Keeps g.T.Parse.takes) _ _ x z y h.shows h.leaves h.met.1)
-    c.run_within.ensures.runs
+returns-clause-takes g c = grind (arith, common_steps, group_keeps, at-states)

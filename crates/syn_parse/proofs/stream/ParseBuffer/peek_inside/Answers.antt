@@ -1,4 +1,5 @@
-use Rattle.std.proofs.Common.{rules}
+use Rattle.std.proofs.Common.{arith, rules}
+use Rattle.std.proofs.lemmas.Grind.{common_steps}
 use Rattle.tok_leaves.specs.Spans.{whole_span}
 use Rattle.tok_buffer.specs.Cursors.{place_of}
 use Rattle.tok_buffer.specs.Entry.{Entered}
@@ -17,5 +18,4 @@ returns-in-Some-clause-sees g c =
     (search rules) c.peek.ensures.sees
 
 pub returns-in-None-clause-sees : goal.returns-in-None-clause-sees
-returns-in-None-clause-sees g c =
-    none_inside g.T.Token.sees c.args.delimiter c.args.self.now.place c.requires (search rules)
+returns-in-None-clause-sees g c = grind (arith, common_steps, none_inside)

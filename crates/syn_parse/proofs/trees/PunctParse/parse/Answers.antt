@@ -1,7 +1,7 @@
-use Rattle.syn_parse.specs.Tokens.{punct}
+use Rattle.std.proofs.Common.{arith}
+use Rattle.std.proofs.lemmas.Grind.{common_steps}
 use Rattle.syn_parse.proofs.Told.{token_told}
 use Rattle.syn_parse.proofs.trees.PunctParse.parse.Goals as goal
 
 pub returns-clause-takes : goal.returns-clause-takes
-returns-clause-takes c =
-    token_told punct c.args.input.now c.punct.result c.punct.new.input c.punct.ensures
+returns-clause-takes c = grind (arith, common_steps, token_told)
