@@ -25,7 +25,7 @@ impl Parse for Value {
 }
 
 #[cycle(values)]
-#[tactic(auto, using(crate::proofs::Values::all), unfolding(syn_parse::specs::Takes::take_group))]
+#[tactic(auto, using(crate::specs::Values::value_again, crate::proofs::Values::form_list, crate::specs::declared::value::Value::the_lemmas), unfolding(syn_parse::specs::Takes::take_group))]
 fn read_value(input: ParseStream<'_, '_>) -> Result<Value>
     ensures { Keeps values input.old result input.new }
 {

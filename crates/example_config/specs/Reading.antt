@@ -133,14 +133,6 @@ take_setting = setting_step take_value
 abbrev pub take_settings : Taking (List SettingForm × List (Token Comma))
 take_settings = take_terminated take_setting (take Comma)
 
--- the parse of a list, if no invisible group is empty
-abbrev pub list_value : Takings Value
-list_value = taken_filled value_form (take_list_value take_value)
-
--- the parse of a map, if no invisible group is empty
-abbrev pub map_value : Takings Value
-map_value = taken_filled value_form (take_map_value take_value)
-
 -- the parse of values and their commas, if no invisible group is empty
 abbrev pub values : Takings (Punctuated Value (Token Comma))
 values = taken_filled (list_form value_form (λ p. p)) (take_terminated take_value (take Comma))

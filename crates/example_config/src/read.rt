@@ -7,7 +7,7 @@ ghost use Rattle.syn_parse.specs.Takings.{Keeps};
 ghost use Rattle.tok_values.specs.Values.{HasValue};
 ghost use Rattle.example_config.specs.Forms.{value_form};
 ghost use Rattle.example_config.specs.Nesting.{setting, value};
-ghost use Rattle.example_config.specs.Reading.{Means, ReadsText, SaysOnce, in_integer, list_value, map_value, meaning, settings, take_key, take_literal_value, take_meaning, take_plain, values};
+ghost use Rattle.example_config.specs.Reading.{Means, ReadsText, SaysOnce, in_integer, meaning, settings, take_key, take_literal_value, take_meaning, take_plain, values};
 
 use crate::value::{Config, False, Include, Setting, True, Value};
 use std::alloc::Global;
@@ -50,7 +50,7 @@ fn read_values(input: ParseStream<'_, '_>) -> Result<Punctuated<Value, token::Co
 
 // Reads a key, a colon and a value.
 #[cycle(reading)]
-#[tactic(auto, using(crate::proofs::Formed::plain), unfolding(crate::specs::Reading::setting_step))]
+#[tactic(auto, using(crate::specs::declared::value::Value::the_lemmas), unfolding(crate::specs::Reading::setting_step))]
 fn read_setting(input: ParseStream<'_, '_>) -> Result<Setting>
     ensures { Keeps setting input.old result input.new }
 {
@@ -77,45 +77,27 @@ pub(crate) fn read_key(input: ParseStream<'_, '_>) -> Result<Ident>
 
 // Reads a value.
 #[cycle(reading)]
-#[tactic(auto, using(crate::specs::Nesting::value_again))]
+#[tactic(auto, using(crate::specs::Nesting::value_again, crate::proofs::Formed::formed), unfolding(syn_parse::specs::Takes::take_group, crate::specs::Reading::take_list_value, crate::specs::Reading::take_map_value))]
 fn read_value(input: ParseStream<'_, '_>) -> Result<Value>
     ensures { Keeps value input.old result input.new }
 {
     if input.peek::<token::Bracket>() {
-        read_list(input)
+        let Brackets { token, mut content } = parse_brackets(input)?;
+        let values = read_values(&mut content);
+        input.close(content);
+        Ok(Value::List(token, values?))
     } else if input.peek::<token::Brace>() {
-        read_map(input)
+        let Braces { token, mut content } = parse_braces(input)?;
+        let settings = read_settings(&mut content);
+        input.close(content);
+        Ok(Value::Map(token, settings?))
     } else {
         read_plain(input)
     }
 }
 
-// Reads values in brackets.
-#[cycle(reading)]
-#[tactic(auto, using(crate::proofs::Formed::all), unfolding(syn_parse::specs::Takes::take_group, crate::specs::Reading::take_list_value))]
-fn read_list(input: ParseStream<'_, '_>) -> Result<Value>
-    ensures { Keeps list_value input.old result input.new }
-{
-    let Brackets { token, mut content } = parse_brackets(input)?;
-    let values = read_values(&mut content);
-    input.close(content);
-    Ok(Value::List(token, values?))
-}
-
-// Reads settings in braces.
-#[cycle(reading)]
-#[tactic(auto, using(crate::proofs::Formed::all), unfolding(syn_parse::specs::Takes::take_group, crate::specs::Reading::take_map_value))]
-fn read_map(input: ParseStream<'_, '_>) -> Result<Value>
-    ensures { Keeps map_value input.old result input.new }
-{
-    let Braces { token, mut content } = parse_braces(input)?;
-    let settings = read_settings(&mut content);
-    input.close(content);
-    Ok(Value::Map(token, settings?))
-}
-
 // Reads a value that holds no others.
-#[tactic(auto, using(crate::proofs::Formed::plain), unfolding(crate::specs::Reading::take_plain))]
+#[tactic(auto, using(crate::specs::declared::value::Value::the_lemmas), unfolding(crate::specs::Reading::take_plain))]
 pub(crate) fn read_plain(input: ParseStream<'_, '_>) -> Result<Value>
     ensures { TakesAs value_form take_plain input.old result input.new }
 {

@@ -74,27 +74,25 @@ list_formed f form layer listed {made} {level} rolls again none some list =
     values_mapped f (λ l. form (made l)) listed (λ l. level (layer l))
     (λ l. ap form (sym (rolls l)) ∙ again (layer l)) none some list
 
--- What a value is that is made of delimiters and a list: this, of their span and of what the list's
--- values are.
-pub record IsOfList {d : ℕ} {T A P F : Type 0} (f : T → A) (made : Visible d → Punctuated T P → F)
-    (listed : Span → List A × List P → F) : Type 0 where
+-- What a value is that is made of delimiters and a list, as this form sees it: this, of their span
+-- and of what the list's values are.
+pub record IsOfList {d : ℕ} {T A P V F : Type 0} (f : T → A) (form : V → F)
+    (made : Visible d → Punctuated T P → V) (listed : Span → List A × List P → F) : Type 0 where
   pub is : (b : Visible d) (list : Punctuated T P)
-      → made b list ≡ listed (whole_span b.span) (list_form f (λ sign. sign) list)
+      → form (made b list) ≡ listed (whole_span b.span) (list_form f (λ sign. sign) list)
 
--- The value's type is made level by level, so one level is enough. A list without a last value and
--- one with it compute on their own.
-pub of_list : {d : ℕ} {T A P V L F : Type 0} {f : T → A} {roll : L → V} (form : V → F)
-    (layer : Visible d → Punctuated T P → L) {listed : Span → List A × List P → F}
-    {made : Visible d → Punctuated T P → V} {level : L → F}
-    → ((b : Visible d) (list : Punctuated T P) → roll (layer b list) ≡ made b list)
-    → ((l : L) → form (roll l) ≡ level l)
-    → ((b : Visible d) (inner : Vec (T × P)) → level (layer b (of_parts inner None))
+-- A list without a last value and one with it compute on their own, so with the lemmas of the
+-- value's type `search` proves the two premises.
+pub of_list : {d : ℕ} {T A P V F : Type 0} {f : T → A} {form : V → F}
+    {made : Visible d → Punctuated T P → V} {listed : Span → List A × List P → F}
+    → ((b : Visible d) (inner : Vec (T × P)) → form (made b (of_parts inner None))
     ≡ listed (whole_span b.span) (Mapped f inner.items []))
     → ((b : Visible d) (inner : Vec (T × P)) (last : Box T)
-    → level (layer b (of_parts inner (Some last)))
+    → form (made b (of_parts inner (Some last)))
     ≡ listed (whole_span b.span) (Mapped f inner.items (last.value ∷ [])))
-    → IsOfList f (λ b list. form (made b list)) listed
-of_list {f = f} form layer {listed} rolls again none some = record {
+    → IsOfList f form made listed
+of_list {f = f} {form = form} {made = made} {listed = listed} none some = record {
   is = λ b.
-      list_formed f form (layer b) (listed (whole_span b.span)) (rolls b) again (none b) (some b);
+      values_mapped f (λ list. form (made b list)) (listed (whole_span b.span)) _ (λ list. refl)
+      (none b) (some b);
 }

@@ -14,7 +14,7 @@ use Rattle.example_config.specs.Printed.{in_a_row, setting_texts, value_text}
 use Rattle.example_config.specs.Printed.{value_texts}
 use Rattle.example_config.specs.declared.value.Setting.{Setting, size-Setting}
 use Rattle.example_config.specs.declared.value.Value.{List, Map, Value, size-Value, the_lemmas}
-use Rattle.example_config.proofs.Formed.{form_list, form_map}
+use Rattle.example_config.proofs.Formed.{formed}
 use Rattle.example_config.proofs.Printing.{all_written, left, none_written, text_further}
 use Rattle.example_config.proofs.print.+printing.Goals as goal
 
@@ -52,13 +52,13 @@ write_value-write_map-requires g t c κs within =
 pub write_value-returns-in-List : goal.write_value-returns-in-List
 write_value-returns-in-List g t c =
     λ plain ok.
-    let form = ap value_form c.in-List.is ∙ form_list.is c.in-List.field-0 c.in-List.values in
+    let form = ap value_form c.in-List.is ∙ formed.0.is c.in-List.field-0 c.in-List.values in
     has_written_of_eq _ _ _ _ _ (ap value_text (sym form)) (c.write_list.ensures plain ok)
 
 pub write_value-returns-in-Map : goal.write_value-returns-in-Map
 write_value-returns-in-Map g t c =
     λ plain ok.
-    let form = ap value_form c.in-Map.is ∙ form_map.is c.in-Map.field-0 c.in-Map.settings in
+    let form = ap value_form c.in-Map.is ∙ formed.1.is c.in-Map.field-0 c.in-Map.settings in
     has_written_of_eq _ _ _ _ _ (ap value_text (sym form)) (c.write_map.ensures plain ok)
 
 pub write_list-loop-item-init : goal.write_list-loop-item-init

@@ -1,13 +1,13 @@
-use Rattle.std.proofs.Common.{◌∙◌, arith, refl}
-use Rattle.example_config.proofs.Formed.{plain}
+use Rattle.std.proofs.Common.{◌∙◌, arith}
 use Rattle.example_config.proofs.Meanings.{says, with_suffix, without_suffix}
+use Rattle.example_config.specs.declared.value.Value.{the_lemmas}
 use Rattle.example_config.proofs.read.unsuffixed.Goals as goal
 
 pub returns-then-is_empty : goal.returns-then-is_empty
 returns-then-is_empty c = λ a.
     without_suffix c.args.span c.args.number c.args.suffix.now a
     (omega (arith, c.ranges.number.fits)) c.if-is_empty.ensures
-    ∙ simp plain refl
+    ∙ simp the_lemmas
 
 pub returns-else-is_empty : goal.returns-else-is_empty
 returns-else-is_empty c = λ a.
