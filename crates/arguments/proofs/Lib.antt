@@ -1,4 +1,4 @@
 pub mod Formed
-pub mod Grammar
+mod Grammar
 pub mod Outcomes
-pub mod Returned
+mod Returned

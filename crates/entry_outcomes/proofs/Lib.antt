@@ -1,2 +1,2 @@
 mod Messages
-pub mod Stops
+mod Stops

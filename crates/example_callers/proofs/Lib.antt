@@ -1,10 +1,10 @@
-pub mod Fields
-pub mod Listed
-pub mod ListTrees
-pub mod Names
-pub mod Nested
-pub mod Outcomes
-pub mod Parts
-pub mod SameViews
-pub mod Text
-pub mod Values
+mod Fields
+mod Listed
+mod ListTrees
+mod Names
+mod Nested
+mod Outcomes
+mod Parts
+mod SameViews
+mod Text
+mod Values

@@ -1,17 +1,17 @@
-pub mod Ascii
-pub mod Characters
-pub mod Choices
-pub mod Ends
-pub mod Fits
-pub mod Formed
-pub mod Grammar
-pub mod Literals
-pub mod Meanings
-pub mod Names
-pub mod OfText
-pub mod Outcomes
-pub mod Pieces
-pub mod Printing
-pub mod ReadBack
-pub mod Returned
-pub mod Rows
+mod Ascii
+mod Characters
+mod Choices
+mod Ends
+mod Fits
+mod Formed
+mod Grammar
+mod Literals
+mod Meanings
+mod Names
+mod OfText
+mod Outcomes
+mod Pieces
+mod Printing
+mod ReadBack
+mod Returned
+mod Rows

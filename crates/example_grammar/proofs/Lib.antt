@@ -1,1 +1,1 @@
-pub mod NamedTypes
+mod NamedTypes

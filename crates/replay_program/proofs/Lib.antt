@@ -1,8 +1,8 @@
-pub mod CommandLines
-pub mod Dashes
-pub mod Failing
-pub mod Fronts
-pub mod Lines
-pub mod Looks
-pub mod Once
-pub mod WordCuts
+mod CommandLines
+mod Dashes
+mod Failing
+mod Fronts
+mod Lines
+mod Looks
+mod Once
+mod WordCuts

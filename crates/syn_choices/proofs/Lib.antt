@@ -1,4 +1,4 @@
-pub mod Attempts
+mod Attempts
 mod CallLoops
-pub mod Choices
+mod Choices
 mod Turns

@@ -1,4 +1,4 @@
-pub mod Bools
-pub mod KindReads
-pub mod Raws
-pub mod Told
+mod Bools
+mod KindReads
+mod Raws
+mod Told

@@ -1,25 +1,25 @@
 pub mod Depth
-pub mod Equality
+mod Equality
 pub mod Exactly
 pub mod ExactTokens
-pub mod Hashes
-pub mod Inserts
+mod Hashes
+mod Inserts
 pub mod IterRuns
 pub mod ListShapes
 pub mod ListTakes
 pub mod Mapped
-pub mod PairedUp
-pub mod PairsAdded
-pub mod Progress
-pub mod ReadBack
-pub mod ReadTokens
-pub mod RetainSteps
-pub mod Retold
-pub mod Runs
-pub mod TakeTurns
-pub mod TakenRuns
-pub mod Taken
-pub mod Trailing
-pub mod TreesPassed
+mod PairedUp
+mod PairsAdded
+mod Progress
+mod ReadBack
+mod ReadTokens
+mod RetainSteps
+mod Retold
+mod Runs
+mod TakeTurns
+mod TakenRuns
+mod Taken
+mod Trailing
+mod TreesPassed
 pub mod WithValue
 pub mod Writes

@@ -1,6 +1,6 @@
-pub mod Agreements
-pub mod Comparing
-pub mod Punctuations
-pub mod Messages
+mod Agreements
+mod Comparing
+mod Punctuations
+mod Messages
 pub mod Views
-pub mod Walk
+mod Walk

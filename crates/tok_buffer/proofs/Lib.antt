@@ -1,30 +1,30 @@
-pub mod Befores
+mod Befores
 pub mod Between
-pub mod BetweenAt
-pub mod CompileErrorLoops
-pub mod Counted
-pub mod Descents
-pub mod Enclosing
-pub mod Entered
+mod BetweenAt
+mod CompileErrorLoops
+mod Counted
+mod Descents
+mod Enclosing
+mod Entered
 pub mod Followed
-pub mod Forests
-pub mod Groups
-pub mod InScope
-pub mod Joined
-pub mod Layouts
-pub mod Lefts
-pub mod Levels
-pub mod Measured
-pub mod NextChars
+mod Forests
+mod Groups
+mod InScope
+mod Joined
+mod Layouts
+mod Lefts
+mod Levels
+mod Measured
+mod NextChars
 pub mod Onwards
-pub mod Peeks
-pub mod PunctRuns
-pub mod Reading
-pub mod Rests
-pub mod Scans
+mod Peeks
+mod PunctRuns
+mod Reading
+mod Rests
+mod Scans
 pub mod ScopeEnds
-pub mod Spanned
-pub mod Spots
-pub mod Stacks
-pub mod Steps
+mod Spanned
+mod Spots
+mod Stacks
+mod Steps
 pub mod View

@@ -1,16 +1,16 @@
-pub mod Blamed
-pub mod BlamedOnce
-pub mod Closings
-pub mod Fillings
-pub mod Fronts
-pub mod Groups
-pub mod Laid
-pub mod Leading
-pub mod Leaves
-pub mod Lexed
-pub mod Once
-pub mod Reading
-pub mod Showing
-pub mod Splits
+mod Blamed
+mod BlamedOnce
+mod Closings
+mod Fillings
+mod Fronts
+mod Groups
+mod Laid
+mod Leading
+mod Leaves
+mod Lexed
+mod Once
+mod Reading
+mod Showing
+mod Splits
 pub mod Steps
-pub mod Words
+mod Words

@@ -1,7 +1,7 @@
-pub mod ByText
-pub mod IdentFaults
-pub mod Kept
-pub mod Literals
+mod ByText
+mod IdentFaults
+mod Kept
+mod Literals
 pub mod Names
-pub mod Plain
-pub mod Quoting
+mod Plain
+mod Quoting

@@ -1,31 +1,31 @@
 pub mod Appended
 pub mod BareReturns
-pub mod Codes
+mod Codes
 pub mod Decimals
 pub mod Digits
 pub mod Docs
 pub mod EscapedChars
 pub mod First
 pub mod Fits
-pub mod FloatTails
+mod FloatTails
 pub mod Fronts
 pub mod Heads
 pub mod Identifiers
 pub mod Lanes
-pub mod Leads
+mod Leads
 pub mod Longest
-pub mod NestedComments
+mod NestedComments
 pub mod QuotedFaults
 pub mod RawQuotes
-pub mod RawStrings
+mod RawStrings
 pub mod Runs
-pub mod Scans
+mod Scans
 pub mod Seconds
 pub mod Slashes
 pub mod Sources
 pub mod Starts
-pub mod StringPrefixes
-pub mod Tables
+mod StringPrefixes
+mod Tables
 pub mod Texts
 pub mod Units
-pub mod WhiteSpace
+mod WhiteSpace

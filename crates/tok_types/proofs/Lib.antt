@@ -1,7 +1,7 @@
 pub mod Identifiers
-pub mod Numbers
-pub mod Puncts
-pub mod Reserved
+mod Numbers
+mod Puncts
+mod Reserved
 pub mod Seen
-pub mod Views
+mod Views
 pub mod Words

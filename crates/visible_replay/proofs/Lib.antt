@@ -1,1 +1,1 @@
-pub mod Deciding
+mod Deciding
