@@ -19,8 +19,7 @@ module _ {X : Type 0} (μ : X → ℕ) where
   deepest_last (Some value) = max (μ value.value) 0
 
   pub last_most : (last : Option (Box X)) → most μ (boxed_values last) ≡ deepest_last last
-  last_most None = refl
-  last_most (Some v) = omega arith
+  last_most last = grind arith
 
 module _ {X Y : Type 0} (μ : X → ℕ) where
   -- the deepest value, as a recursive type that holds the list counts it

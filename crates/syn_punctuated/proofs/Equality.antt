@@ -1,4 +1,5 @@
 -- Equality of two lists: by their fields, and by their values and separators.
+use Rattle.std.proofs.Common.{arith}
 use Rattle.std.proofs.Common.{◌≡◌, ◌&&◌, Bool, true, false, List, [], ◌∷◌, ◌++◌, map, Option, None}
 use Rattle.std.proofs.Common.{Some, refl}
 use Rattle.std.specs.Cmp.Lexicographic.{pointwise}
@@ -7,19 +8,14 @@ use Rattle.std.specs.Option.{option_eq}
 use Rattle.syn_punctuated.specs.Private.Boxes.{boxed_values}
 
 and-true-true : (a : Bool) → a ≡ ((a && true) && true)
-and-true-true true = refl
-and-true-true false = refl
+and-true-true a = grind arith
 
 regroup : (a b pairs last values separators : Bool) → (pairs && last) ≡ (values && separators)
     → (((a && b) && pairs) && last) ≡ ((a && values) && (b && separators))
-regroup true true pairs last values separators same = same
-regroup true false pairs last true separators same = refl
-regroup true false pairs last false separators same = refl
-regroup false b pairs last values separators same = refl
+regroup a b pairs last values separators h = grind arith
 
 false-and-false : (a : Bool) → false ≡ (a && false)
-false-and-false true = refl
-false-and-false false = refl
+false-and-false a = grind arith
 
 module _ {X Y : Type 0} (E : X → X → Bool) (F : Y → Y → Bool) where
   pub equal_by_lists : (ps qs : List (X × Y)) (v w : Option (Box X))
@@ -31,9 +27,6 @@ module _ {X Y : Type 0} (E : X → X → Bool) (F : Y → Y → Bool) where
   equal_by_lists [] [] None (Some w) = refl
   equal_by_lists [] [] (Some v) None = refl
   equal_by_lists [] [] (Some v) (Some w) = and-true-true (E v.value w.value)
-  equal_by_lists [] (q ∷ qs) v w =
-      false-and-false (pointwise E (boxed_values v) (q.0 ∷ (map (λ q. q.0) qs ++ boxed_values w)))
-  equal_by_lists (p ∷ ps) [] v w =
-      false-and-false (pointwise E (p.0 ∷ (map (λ p. p.0) ps ++ boxed_values v)) (boxed_values w))
-  equal_by_lists (p ∷ ps) (q ∷ qs) v w =
-      regroup (E p.0 q.0) (F p.1 q.1) _ _ _ _ (equal_by_lists ps qs v w)
+  equal_by_lists [] (q ∷ qs) v w = grind (arith, false-and-false)
+  equal_by_lists (p ∷ ps) [] v w = grind (arith, false-and-false)
+  equal_by_lists (p ∷ ps) (q ∷ qs) v w = grind (arith, regroup, equal_by_lists ps qs v w)

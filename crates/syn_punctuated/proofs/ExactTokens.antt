@@ -1,6 +1,7 @@
 -- Tokens and all that is left are taken exactly, and a peek tells whether a token is next.
+use Rattle.std.proofs.Common.{arith}
 use Rattle.std.proofs.Common.{◌≡◌, ◌∙◌, sym, ap, subst, refl, ℕ, ◌==◌, ◌&&◌, not, Bool, true, List}
-use Rattle.std.proofs.Common.{[], ◌∷◌, ◌++◌, map, Option, Some, None, eq-eqb, eqb-true}
+use Rattle.std.proofs.Common.{[], ◌∷◌, map, Option, Some, None, eq-eqb, eqb-true}
 use Rattle.std.proofs.lemmas.Bool.{and_from, and_parts, false≢true}
 use Rattle.std.specs.Prelude.{is_some}
 use Rattle.tok_lexical.specs.declared.delimiter.Delimiter.{Delimiter}
@@ -114,14 +115,8 @@ joint_punct c d cs spans (group x y z) f g h r = absurd (false≢true h)
 spelled : (cs : List ℕ) (ts : List Tree) (g : Forest) → Spells cs ts
     → ArePuncts cs (concat (forest ts) g) (map tree_span ts) g
 spelled [] ts g i = absurd i
-spelled (c ∷ []) ts g i =
-    subst (λ us. ArePuncts (c ∷ []) (concat (forest us) g) (map tree_span us) g) (sym i.1)
-    (one_punct c i.0 g i.2)
-spelled (c ∷ (d ∷ cs)) ts g i =
-    subst (λ us. ArePuncts (c ∷ (d ∷ cs)) (concat (forest us) g) (map tree_span us) g)
-    (sym (i.2 ∙ ap (λ us. us ++ i.1) i.3.1))
-    (joint_punct c d cs (map tree_span i.1) i.3.0 (concat (forest i.1) g) g i.3.2
-    (spelled (d ∷ cs) i.1 g i.4))
+spelled (c ∷ []) ts g i = grind (arith, one_punct)
+spelled (c ∷ (d ∷ cs)) ts g i = grind (arith, joint_punct, spelled (d ∷ cs) i.1 g i.4)
 
 spells : {cs : List ℕ} {f g : Forest} {spans : List Span} → ArePuncts cs f spans g
     → are_own cs ≡ true
@@ -188,8 +183,7 @@ module _ {A : Type 0} {P : Part A} (read : Forest → Option (List Tree × Fores
 
   read_seen : (f : Forest) (g : Forest) (v : A) (o : Option (List Tree × Forest))
       → read_as means lack (only_trees f) o ≡ found v (only_trees g) → is_some o ≡ true
-  read_seen f g v None e = absurd (cc)
-  read_seen f g v (Some r) e = refl
+  read_seen f g v o e = grind arith
 
   tells_read : Tells P (λ a. is_some (read a.trees))
   tells_read = record { next = λ f e. read_next f (read f) refl e; seen = go } where

@@ -1,15 +1,13 @@
 -- What is taken, with nothing left unread in a group, is exactly what a grammar has: of each way to
 -- build a parser.
-use Rattle.std.proofs.Common.{◌≡◌, ◌∙◌, sym, ap, subst, refl, arith, ℕ, zero, suc, ◌<◌, Bool, true}
-use Rattle.std.proofs.Common.{false, cond, List, [], ◌∷◌, Option, Some, None}
+use Rattle.std.proofs.Common.{◌≡◌, ◌∙◌, sym, ap, subst, refl, arith, ℕ, zero, suc, Bool, true}
+use Rattle.std.proofs.Common.{false, cond, List, [], ◌∷◌, Option, None}
 use Rattle.std.proofs.lemmas.Bool.{false≢true}
-use Rattle.std.specs.Option.{option_or}
 use Rattle.tok_lexical.specs.declared.delimiter.Delimiter.{Delimiter}
 use Rattle.tok_leaves.specs.declared.span.DelimSpan.{DelimSpan}
 use Rattle.tok_leaves.specs.declared.span.Span.{Span}
-use Rattle.tok_core.specs.Forest.{Forest, no_trees, tree}
+use Rattle.tok_core.specs.Forest.{Forest, no_trees}
 use Rattle.tok_core.specs.Weight.{weight}
-use Rattle.tok_buffer.specs.InFront.{first_tree_span}
 use Rattle.syn_parse.proofs.Shapes.{found_first, found_second, group_taken, takes_group, then_found}
 use Rattle.syn_parse.specs.Many.{many_again, many_step, take_many}
 use Rattle.syn_parse.specs.Nested.{levels, take_nested}
@@ -73,13 +71,7 @@ leaves_unread h = record { taken = λ a b v e u. let t = h a b v e in (t.0 ∙ u
 -- parts that were found.
 module _ {A : Type 0} {Is : Part A} where
   pub ends : {v : A} → ((f : Forest) → Is f v f) → Sound (gives v) Is
-  ends {v} i = record {
-    taken = λ a b w e u. (
-      ap unread_of (found_second e) ∙ u,
-      subst (λ x. Is a.trees x b.trees) (found_first e)
-          (subst (λ f. Is a.trees v f) (ap trees_of (found_second e)) (i a.trees)),
-    );
-  }
+  ends {v} i = grind (arith, found_second, found_first)
 
   pub after : {B : Type 0} {P : Part B} {m : Taking B} {k : B → Taking A} → Sound m P
       → ((v : B) → Sound (k v) (λ g w h. (f : Forest) → P f v g → Is f w h)) → Sound (m >>= k) Is
@@ -135,13 +127,7 @@ pub record Begins {A : Type 0} (Is : Part A) (test : Ahead → Bool) : Type 0 wh
 -- no token lies unread in what a group's contents leave
 nothing_unread : (a left : Ahead) → unread_after a left ≡ None
     → (a.unread ≡ None) × (left.unread ≡ None) × (left.trees ≡ no_trees)
-nothing_unread a left e = go a.unread left.unread left.trees e where
-  go : (x y : Option Span) (f : Forest) → option_or x (option_or y (first_tree_span f)) ≡ None
-      → (x ≡ None) × (y ≡ None) × (f ≡ no_trees)
-  go (Some x) y f e = absurd (cc)
-  go None (Some y) f e = absurd (cc)
-  go None None (tree t f) e = absurd (cc)
-  go None None no_trees e = (refl, refl, refl)
+nothing_unread a left e = grind arith
 
 pub group_exactly : {A : Type 0} {Is : Part A} {inner : Taking A} (d : Delimiter)
     → Exactly Is inner → Exactly (InGroup d Is) (take_group d inner)
@@ -163,10 +149,7 @@ group_exactly {A} {Is} {inner} d h = exactly (record { taken = all }) go where
 
 module _ {A : Type 0} {First : Part A} {test : Ahead → Bool} (t : Tells First test) where
   pub unseen : {f : Forest} → No First f → test (only_trees f) ≡ false
-  unseen {f} n = go (test (only_trees f)) refl where
-    go : (c : Bool) → test (only_trees f) ≡ c → c ≡ false
-    go false e = refl
-    go true e = let x = t.next f e in absurd (n x.0 x.1 x.2)
+  unseen {f} n = grind arith
 
   pub not_next : {f : Forest} → test (only_trees f) ≡ false → No First f
   not_next e v g i = false≢true (sym e ∙ t.seen i)
@@ -201,13 +184,7 @@ module _ {A : Type 0} {First : Part A} {test : Ahead → Bool} (t : Tells First 
 -- a part that takes something begins where something is left
 pub begins_left : {A : Type 0} {Is : Part A} {take : Taking A} → Exactly Is take → Lowers take
     → Begins Is is_left
-begins_left {A} {Is} h low = record { begins = go } where
-  left : (f g : Forest) → weight g < weight f → is_left (only_trees f) ≡ true
-  left no_trees g w = absurd (omega (arith, w))
-  left (tree t f) g w = refl
-
-  go : {f g : Forest} {v : A} → Is f v g → is_left (only_trees f) ≡ true
-  go {f} {g} {v} i = left f g (low.less (only_trees f) (only_trees g) v (takes h i))
+begins_left {A} {Is} h low = grind (arith, takes)
 
 module _ {A P : Type 0} {Is : Part A} {Separates : Part P} {value : Taking A} {sign : Taking P}
     (h : Exactly Is value) (k : Exactly Separates sign) (low : Lowers sign) where

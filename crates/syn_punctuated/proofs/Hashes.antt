@@ -1,5 +1,6 @@
 -- What a list feeds to a hasher: by its fields, and by its values and separators.
-use Rattle.std.proofs.Common.{◌≡◌, ◌∙◌, sym, ap, refl, List, [], ◌∷◌, ◌++◌, map, length, Option}
+use Rattle.std.proofs.Common.{arith}
+use Rattle.std.proofs.Common.{◌≡◌, ap, refl, List, [], ◌∷◌, ◌++◌, map, length, Option}
 use Rattle.std.proofs.Common.{None, Some}
 use Rattle.std.specs.Global.{Box}
 use Rattle.std.specs.Hash as fed
@@ -12,8 +13,7 @@ use Rattle.syn_punctuated.specs.declared.punctuated.Punctuated.{Punctuated}
 
 option-boxed : {X : Type 0} (value : X → HashWrites) (last : Option (Box X))
     → fed.option (λ b. value b.value) last ≡ fed.option value (option_map (λ b. b.value) last)
-option-boxed value None = refl
-option-boxed value (Some last) = refl
+option-boxed value last = grind arith
 
 module _ {X Y : Type 0} where
   zip-pairs : (ps : List (X × Y)) (last : Option (Box X))
@@ -32,10 +32,4 @@ module _ {X Y : Type 0} where
   pub list_hash : (value : X → HashWrites) (separator : Y → HashWrites) (list : Punctuated X Y)
       → (fed.slice (λ p. value p.0 ++ separator p.1) list.inner.items
       ++ fed.option (λ b. value b.value) list.last) ≡ list_input value separator list
-  list_hash value separator list =
-      ap (λ ps. fed.slice (λ p. value p.0 ++ separator p.1) ps
-      ++ fed.option (λ b. value b.value) list.last) (sym (zip-pairs list.inner.items list.last))
-      ∙ ap (λ w. fed.slice (λ p. value p.0 ++ separator p.1)
-      (zip (map (λ p. p.0) list.inner.items ++ boxed_values list.last)
-      (map (λ p. p.1) list.inner.items)) ++ w) (option-boxed value list.last
-      ∙ ap (fed.option value) (sym (bare list.inner.items list.last)))
+  list_hash value separator list = grind (arith, zip-pairs, option-boxed, bare)

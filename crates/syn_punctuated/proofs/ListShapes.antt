@@ -1,6 +1,6 @@
 -- Which lists are taken, in both directions: turn by turn.
 use Rattle.std.specs.Prelude.{None}
-use Rattle.std.proofs.Common.{◌≡◌, ◌∙◌, sym, ap, subst, refl, arith, ℕ, zero, suc, ◌<◌, Bool, true}
+use Rattle.std.proofs.Common.{◌≡◌, ◌∙◌, ap, subst, refl, arith, ℕ, zero, suc, ◌<◌, Bool, true}
 use Rattle.std.proofs.Common.{false, cond}
 use Rattle.std.proofs.Common.{List, [], ◌∷◌}
 use Rattle.std.proofs.lemmas.Bool.{false≢true}
@@ -48,8 +48,7 @@ module _ {A P : Type 0} (begins goes_on : Ahead → Bool) (value : Taking A) (si
   Is a x d = Turns a x.0 x.1 d
 
   of_found : (a b d : Ahead) (x y : Both) → Is a x b → found x b ≡ found y d → Is a y d
-  of_found a b d x y t e =
-      subst (λ z. Is a y z) (found_second e) (subst (λ z. Is a z b) (found_first e) t)
+  of_found a b d x y t e = grind (arith, found_second, found_first)
 
   -- what is found is so many turns
   module _ (n : ℕ) (more : (c d : Ahead) (x : Both) → turns n c ≡ found x d → Is c x d)
@@ -63,8 +62,7 @@ module _ {A P : Type 0} (begins goes_on : Ahead → Bool) (value : Taking A) (si
 
     at_sign : (v : A) (b : Ahead) → value a ≡ found v b → goes_on b ≡ true → (o : Outcome P)
         → sign b ≡ o → and_then o (λ p c. after_sign n v p c) ≡ found x d → Is a x d
-    at_sign v b h g (missing m) s e = absurd (cc)
-    at_sign v b h g (found p c) s e = at_rest v b p c h g s (turns n c) refl e
+    at_sign v b h g o s e = grind (arith, at_rest)
 
     at_value : (v : A) (b : Ahead) → value a ≡ found v b → (g : Bool) → goes_on b ≡ g
         → cond g (and_then (sign b) (λ p c. after_sign n v p c)) (found (v ∷ [], []) b) ≡ found x d
@@ -73,8 +71,7 @@ module _ {A P : Type 0} (begins goes_on : Ahead → Bool) (value : Taking A) (si
     at_value v b h false g e = of_found a b d (v ∷ [], []) x (bare a b v t h g) e
 
     at_turn : (o : Outcome A) → value a ≡ o → and_then o (after_value n) ≡ found x d → Is a x d
-    at_turn (missing m) h e = absurd (cc)
-    at_turn (found v b) h e = at_value v b h (goes_on b) refl e
+    at_turn o h e = grind (arith, at_value)
 
   from_begins : (n : ℕ) (more : (c d : Ahead) (x : Both) → turns n c ≡ found x d → Is c x d)
       (a d : Ahead) (x : Both) (t : Bool) → begins a ≡ t
@@ -97,12 +94,8 @@ module _ {A P : Type 0} (begins goes_on : Ahead → Bool) (value : Taking A) (si
     to_turns : (n : ℕ) (a d : Ahead) (vs : List A) (ps : List P) → weight a.trees < n
         → Turns a vs ps d → turns n a ≡ found (vs, ps) d
     to_turns zero a d vs ps w t = absurd (omega arith)
-    to_turns (suc n) _ _ _ _ w (done a e) =
-        ap (λ t. cond t (and_then (value a) (after_value n)) (found ([], []) a)) e
-    to_turns (suc n) _ _ _ _ w (bare a b v e h g) =
-        ap (λ t. cond t (and_then (value a) (after_value n)) (found ([], []) a)) e
-        ∙ ap (λ o. and_then o (after_value n)) h
-        ∙ ap (λ t. cond t (and_then (sign b) (λ p c. after_sign n v p c)) (found (v ∷ [], []) b)) g
+    to_turns (suc n) _ _ _ _ w (done a e) = grind arith
+    to_turns (suc n) _ _ _ _ w (bare a b v e h g) = grind arith
     to_turns (suc n) _ _ _ _ w (turn a b c d v p vs ps e h g s t) =
         let one = light.less a b v h in
         let two = lower.less b c p s in
@@ -120,15 +113,10 @@ module _ {A P : Type 0} (begins goes_on : Ahead → Bool) (value : Taking A) (si
 
 -- at the end nothing is left
 pub no_trees_left : (a : Ahead) → is_left a ≡ false → a.trees ≡ no_trees
-no_trees_left a = go a.trees where
-  go : (f : Forest) → is_left (record { trees = f; unread = None }) ≡ false → f ≡ no_trees
-  go no_trees e = refl
-  go (tree t f) e = absurd (false≢true (sym e))
+no_trees_left a = grind (arith, false≢true)
 
 pub nothing_left : (a : Ahead) → a.trees ≡ no_trees → a.unread ≡ None → a ≡ all_taken
-nothing_left a e c =
-    ap (λ f. record { trees = f; unread = a.unread }) e
-    ∙ ap (λ b. record { trees = no_trees; unread = b }) c
+nothing_left a e c = grind arith
 
 pub none_after : (f : Forest) → concat f no_trees ≡ f
 none_after no_trees = refl
@@ -148,28 +136,10 @@ module _ {A : Type 0} {k c : ℕ} {Is : A → List Tree → Type 0}
   turns_are : (a d : Ahead) (vs : List A) (ps : List (Punctuation k 1))
       → Turns is_left is_left value sign a vs ps d
       → Are a.trees vs ps × (d.trees ≡ no_trees) × (d.unread ≡ a.unread)
-  turns_are _ _ _ _ (done a e) =
-      (subst (λ f. Are f [] []) (sym (no_trees_left a e)) none, no_trees_left a e, refl)
-  turns_are _ _ _ _ (bare a b v e i g) =
-      let t = h.taken a b v i in (
-        subst (λ f. Are f (v ∷ []) []) (sym (ap (λ (x : Ahead). x.trees) t.2
-            ∙ ap (concat (forest t.0)) (no_trees_left b g) ∙ none_after (forest t.0)))
-            (last t.0 v t.1),
-        no_trees_left b g,
-        sym (ap (λ (x : Ahead). x.unread) t.2),
-      )
+  turns_are _ _ _ _ (done a e) = grind (arith, no_trees_left)
+  turns_are _ _ _ _ (bare a b v e i g) = grind (arith, no_trees_left, none_after)
   turns_are _ _ _ _ (turn a b n d v p vs ps e i g q rest) =
-      let t = h.taken a b v i in
-      let u = s.taken b n p q in
-      let m = turns_are n d vs ps rest in
-      let all = t.2 ∙ ap (before t.0) (u.2 ∙ ap (λ ts. before ts n) u.1.2) in (
-        subst (λ x. Are a.trees (v ∷ vs) (x ∷ ps)) (sym u.1.3)
-            (subst (λ f. Are f (v ∷ vs) (record { spans = u.1.1 ∷ [] } ∷ ps))
-            (sym (ap (λ (x : Ahead). x.trees) all))
-            (more t.0 v u.1.0 u.1.1 n.trees vs ps t.1 m.0)),
-        m.1,
-        m.2 ∙ sym (ap (λ (x : Ahead). x.unread) all),
-      )
+      grind (arith, before, turns_are n d vs ps rest)
 
   pub list_sound : SoundToEnd (take_terminated value sign) (λ x f. Are f x.0 x.1)
   list_sound = record {
@@ -196,10 +166,7 @@ module _ {A : Type 0} {k c : ℕ} {value : Taking A} (low : Lowers value)
       (lowers_token (punctuation k 1)) a all_taken vs ps t
 
   begins : (a b : Ahead) (v : A) → value a ≡ found v b → is_left a ≡ true
-  begins a b v e = go a.trees (low.less a b v e) where
-    go : (f : Forest) → weight b.trees < weight f → is_left (only_trees f) ≡ true
-    go no_trees w = absurd (omega (arith, w))
-    go (tree t f) w = refl
+  begins a b v e = grind arith
 
   pub none_taken : AllTaken no_trees [] []
   none_taken = by_turns all_taken [] [] (done all_taken refl)

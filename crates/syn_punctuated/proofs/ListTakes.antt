@@ -1,5 +1,6 @@
 -- Terminated and separated lists take what their values and separators do.
-use Rattle.std.proofs.Common.{◌≡◌, ◌∙◌, sym, ap, refl, ℕ, Bool, true, false, not, Option, Some}
+use Rattle.std.proofs.Common.{arith}
+use Rattle.std.proofs.Common.{◌≡◌, ◌∙◌, sym, ap, ℕ, Bool, not, Option, Some}
 use Rattle.std.specs.Prelude.{Result}
 use Rattle.tok_core.specs.Forest.{Forest}
 use Rattle.tok_buffer.specs.Place.{Place, is_at_end}
@@ -36,26 +37,14 @@ left-there : (s : State) (b : Bool) → IsFilled s.place → is_at_end s.place �
 left-there s b i h = ap not (sym (end_told s.place i) ∙ h)
 
 tells-terminated : Tells terminated is_left is_left Filled
-tells-terminated = record {
-  begins_there = λ s i h. left-there s false i h;
-  ends_there = λ s i h. left-there s true i h;
-  goes_on_there = λ s i h. left-there s false i h;
-  stops_there = λ s i h. left-there s true i h;
-  stays_good = λ s t h i. h.0 i;
-}
+tells-terminated = grind (arith, left-there)
 
 abbrev SeenBy : (Place → Bool → Type 0) → (Forest → Bool) → Place → Bool → Type 0
 SeenBy peeks sees p found = peeks p found × Sees (Some sees) p found
 
 tells-separated : (peeks : Place → Bool → Type 0) (sees : Forest → Bool)
     → Tells (separated (SeenBy peeks sees)) always (λ a. sees a.trees) (λ s. Unit {0})
-tells-separated peeks sees = record {
-  begins_there = λ s i h. refl;
-  ends_there = λ s i h. absurd h;
-  goes_on_there = λ s i h. sym h.1;
-  stops_there = λ s i h. sym h.1;
-  stays_good = λ s t h i. tt;
-}
+tells-separated peeks sees = grind arith
 
 module _ {T P F : Type 0} (reads : ValueCall F T) (parses : Call P) (go : ParsesOn parses) where
   module _ {S : Type 0} (shape : P → S) (sign : Taking S) (less : Lowers sign) where

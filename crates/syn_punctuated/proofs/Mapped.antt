@@ -1,4 +1,5 @@
 -- A list whose values are replaced, each by one of another type.
+use Rattle.std.proofs.Common.{arith}
 use Rattle.std.proofs.Common.{◌≡◌, ◌∙◌, sym, ap, refl, ℕ, List, [], ◌∷◌, ◌++◌, map}
 use Rattle.std.proofs.Common.{Option, Some, None}
 use Rattle.std.specs.Global.{Box, Vec}
@@ -40,8 +41,7 @@ module _ {T A P : Type 0} (f : T → A) where
 
   list_mapped : (pairs : List (T × P)) (more : List T) → Mapped pairs more ≡ Both pairs more
   list_mapped [] more = refl
-  list_mapped (pair ∷ pairs) more =
-      ap (λ (x : List A × List P). (f pair.0 ∷ x.0, pair.1 ∷ x.1)) (list_mapped pairs more)
+  list_mapped (pair ∷ pairs) more = grind (arith, list_mapped pairs more)
 
   -- One level of a value that holds a list, where the level has the list's values replaced: so is
   -- the form of the list. A list without a last value and one with it compute on their own.

@@ -1,7 +1,7 @@
 -- One more pair.
 use Rattle.std.proofs.Common.{◌≡◌, ◌+◌, List, [], ◌∷◌, ◌++◌, map, length, refl, sym, ap, ◌∙◌, arith}
-use Rattle.std.proofs.Common.{append_assoc, length-append, Option, None, Some, true, false, is_some}
-use Rattle.std.proofs.Common.{subst, Result, Ok, Err, MatchResult, IfErr}
+use Rattle.std.proofs.Common.{append_assoc, length-append, Option, true, false, is_some}
+use Rattle.std.proofs.Common.{Result, MatchResult, IfErr}
 use Rattle.std.proofs.lemmas.List.{length-map, map-append}
 use Rattle.std.specs.Option.{option_to_list}
 use Rattle.std.specs.Result.{IsErrAnd}
@@ -17,19 +17,16 @@ use Rattle.syn_punctuated.specs.Adds.{AddsPairs, IsPairs, EndsBare, separators_i
 boxed_count : {X : Type 0} (last : Option (Box X))
     → (is_some last ≡ true → length (boxed_values last) ≡ 1)
     × (is_some last ≡ false → length (boxed_values last) ≡ 0)
-boxed_count None = ((λ e. cc), λ e. refl)
-boxed_count (Some v) = ((λ e. refl), λ e. cc)
+boxed_count last = grind arith
 
 -- what holds of a fault holds of an answer that is this fault
 module _ {A B : Type 0} (Q : B → Type 0) (fault : B) where
   pub match_fault : (P : A → Type 0) (r : Result A B) → IsErrAnd r (λ e. e ≡ fault) → Q fault
       → MatchResult r P Q
-  match_fault P (Ok a) h q = absurd h
-  match_fault P (Err e) h q = subst Q (sym h) q
+  match_fault P r h q = grind arith
 
   pub if_fault : (r : Result A B) → IsErrAnd r (λ e. e ≡ fault) → Q fault → IfErr r Q
-  if_fault (Ok a) h q = absurd h
-  if_fault (Err e) h q = subst Q (sym h) q
+  if_fault r h q = grind arith
 
 module _ {X Y : Type 0} where
   pub some_is_bare : (list : List' X Y) → is_some list.last ≡ true

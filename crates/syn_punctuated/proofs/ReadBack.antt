@@ -1,14 +1,11 @@
 -- A list of what is read back one by one is read back whole.
 use Rattle.std.proofs.Common.{◌≡◌, ◌∙◌, sym, ap, refl, ℕ, ◌<◌, arith, List, [], ◌∷◌, ◌++◌, map}
-use Rattle.std.proofs.Common.{length, true, false, eqb, eq-eqb, Option, Some, None, Ok, Err, ◌⊎◌}
-use Rattle.std.proofs.Common.{inl, inr, subst}
+use Rattle.std.proofs.Common.{length, true, false, Option, Some, None, Ok, Err, ◌⊎◌}
+use Rattle.std.proofs.Common.{inl, inr}
 use Rattle.std.proofs.lemmas.Bool.{false≢true}
 use Rattle.std.proofs.lemmas.List.Elements.{All-head, All-tail}
 use Rattle.std.specs.Prelude.{Result}
-use Rattle.std.specs.Cmp.{nat_cmp_is}
 use Rattle.std.specs.List.{All}
-use Rattle.std.specs.Ordering.{nat_cmp}
-use Rattle.std.specs.declared.cmp.Ordering.TheVariants.{Less}
 use Rattle.std.specs.Global.{Box}
 use Rattle.tok_core.specs.Forest.{Forest, no_trees, concat}
 use Rattle.tok_buffer.specs.Place.{Enclosing, Place, is_at_end}
@@ -38,11 +35,7 @@ list_by_turns list = pairs_by_turns list.inner.items list.last
 
 later_progresses : (o : Enclosing) (n s c d : ℕ) (p q f g : Forest) → c < d
     → progresses (flat o n s c p f) (flat o n s d q g) ≡ true
-later_progresses o n s c d p q f g l =
-    let same : eqb n n ≡ true = eq-eqb n n refl in
-    let scope : eqb s s ≡ true = eq-eqb s s refl in
-    let less : nat_cmp c d ≡ Less = sym (nat_cmp_is c d Less l) in
-    rw (same, scope, less) refl
+later_progresses o n s c d p q f g l = grind arith
 
 module _ {T P : Type 0} (value_parses : Call T) (value_printed : T → Forest)
     (separator_parses : Call P) (separator_printed : P → Forest) (o : Enclosing) (n s : ℕ) where
@@ -217,21 +210,7 @@ module _ {T P : Type 0} (value_parses : Call T) (value_printed : T → Forest)
   reads_list : (xs : List T) (ys : List P) (turns : List (Turn T P (Unit {0})))
       (r : Result (Punctuated T P) Fault) (m t : State) → Follows turns turns xs ys m r t
       → ReadsList value_parses value_printed separator_parses separator_printed xs ys o n s m r t
-  reads_list xs ys turns (Ok new) m t (inl k) = absurd (ok_is_no_err new k.0 k.1)
-    where
-      ok_is_no_err : (new : Punctuated T P) (e : Fault) → Ok new ≡ Err e → ⊥
-      ok_is_no_err new e q = subst is_ok q tt
-        where
-          is_ok : Result (Punctuated T P) Fault → Type 0
-          is_ok (Ok v) = Unit {0}
-          is_ok (Err v) = ⊥
-  reads_list xs ys turns (Err e) m t (inl k) = subst on_err (sym k.1) k.2
-    where
-      on_err : Result (Punctuated T P) Fault → Type 0
-      on_err (Ok v) = ⊥
-      on_err (Err v) = IsMemory v
-  reads_list xs ys turns (Ok new) m t (inr k) = (k.1.0 ∙ k.2, k.1.1 ∙ k.3, k.4)
-  reads_list xs ys turns (Err e) m t (inr k) = absurd k.1
+  reads_list xs ys turns r m t h = grind arith
 
 pub lists_are_read_back : {T P : Type 0} (value_parses : Call T) (value_printed : T → Forest)
     (separator_parses : Call P) (separator_printed : P → Forest)

@@ -1,6 +1,6 @@
 -- Identifiers and punctuations are read back.
 use Rattle.std.proofs.Common.{◌≡◌, ◌∙◌, sym, ap, refl, ℕ, zero, suc, ◌+◌, ◌<◌, arith, List, [], ◌∷◌}
-use Rattle.std.proofs.Common.{map, length, get_or, Bool, true, false, ◌&&◌, eq-eqb, eqb-true}
+use Rattle.std.proofs.Common.{map, length, get_or, Bool, true, false, ◌&&◌}
 use Rattle.std.proofs.Common.{Option, Some, None, Ok, Err, subst}
 use Rattle.std.proofs.lemmas.Bool.{and_parts, cond-true, cond_both}
 use Rattle.std.specs.Prelude.{Result, MatchOption, not, ◌==◌}
@@ -8,17 +8,17 @@ use Rattle.std.specs.List.{All, list_all}
 use Rattle.tok_leaves.specs.declared.ident.Ident.{Ident}
 use Rattle.tok_leaves.specs.declared.punct.Spacing.TheVariants.{Joint}
 use Rattle.tok_leaves.specs.declared.span.Span.{Span}
-use Rattle.tok_leaves.specs.Leaves.{ident, punct, ident_of, apostrophe}
+use Rattle.tok_leaves.specs.Leaves.{punct, ident_of, apostrophe}
 use Rattle.tok_core.specs.Forest.{Tree, leaf, Forest, no_trees, tree, forest, concat, tree_span}
 use Rattle.tok_lexical.specs.Characters.{is_punct_or_apostrophe}
 use Rattle.tok_leaves.specs.Spans.{call_site}
 use Rattle.tok_buffer.specs.Ahead.{Leftover}
 use Rattle.tok_core.specs.Weight.{weight}
 use Rattle.tok_buffer.specs.Place.{Enclosing, whole, is_at_end}
-use Rattle.tok_buffer.specs.Reads.{read_then, read_word, read_punctuation, read_ident}
+use Rattle.tok_buffer.specs.Reads.{read_then, read_punctuation, read_ident}
 use Rattle.tok_buffer.specs.declared.error.Message.{Message}
 use Rattle.tok_types.specs.Printed.{joint_puncts, puncts}
-use Rattle.tok_types.specs.Texts.{accept_as_ident, punctuations, punctuation_text, punctuation_word}
+use Rattle.tok_types.specs.Texts.{punctuations, punctuation_text, punctuation_word}
 use Rattle.tok_types.specs.declared.punctuation.Punctuation.{Punctuation}
 use Rattle.syn_parse.specs.Parses.{IsIdent, AreSpans, IdentParses, PunctuationParses}
 use Rattle.syn_parse.specs.Reads.{Reads, ReadsAtOnce}
@@ -39,8 +39,7 @@ abbrev ident_printed : Ident → Forest
 ident_printed i = tree (leaf (ident_of i)) no_trees
 
 first_ident : Ident → List Tree → Ident
-first_ident i (leaf (ident text span) ∷ ts) = record { text = text; span = span }
-first_ident i ts = i
+first_ident i h = grind arith
 
 abbrev no_ident : State → Message
 no_ident from = refused_at from (ident_words (read_ident from.place))
@@ -54,17 +53,10 @@ ident_reads : (i : Ident) (o : Enclosing) (n s c : ℕ) (p f : Forest) (from to 
     )) (no_ident from) from r to
     → ReadsAs IdentParses ident_printed i o n s c f from r to
 unfolding first_ident
-ident_reads i o n s c p f from to (Ok v) h =
-    (ap (first_ident v) (sym h.0), (c + 1, tree (leaf (ident_of i)) p, omega arith, h.1))
-ident_reads i o n s c p f from to (Err e) h = h.0
+ident_reads i o n s c p f from to r h = grind (arith, first_ident)
 
 pub ident_read_back : (i : Ident) → IsAccepted i → IsReadBack IdentParses ident_printed i
-ident_read_back i accepted = record {
-  some = λ o n s c p f. refl;
-  reads = λ o n s c p f from to r e h. ident_reads i o n s c p f from to r
-      (subst (λ x. Reads IsIdent x (no_ident from) from r to)
-      (ap (read_word accept_as_ident) e ∙ cond-true _ _ None accepted) h);
-}
+ident_read_back i accepted = grind (arith, ident_reads, cond-true)
 
 -- a character that is written as a punct, and read as one
 abbrev is_plain : ℕ → Bool
@@ -81,9 +73,7 @@ plain_word k n = cond_both (length (punctuation_text k) == n) (punctuation_text 
     (λ text. list_all is_plain text ≡ true) (λ _. plain_at punctuations k refl) (λ _. refl)
 
 long_word : (k n : ℕ) → 0 < length (punctuation_word k n) → length (punctuation_word k n) ≡ n
-long_word k n = cond_both (length (punctuation_text k) == n) (punctuation_text k) []
-    (λ text. 0 < length text → length text ≡ n) (λ e _. eqb-true (length (punctuation_text k)) n e)
-    (λ _ l. absurd (omega (arith, l)))
+long_word k n = grind (arith, cond_both)
 
 puncts_all : (text : List ℕ) → list_all is_plain text ≡ true
     → list_all is_punct_or_apostrophe text ≡ true
@@ -97,8 +87,7 @@ puncts_all (c ∷ cs) h = let p = and_parts (is_plain c) _ h in rw (
 -- written as one punct each
 puncts_are_joint : (text : List ℕ) (spans : List Span) → length text ≡ length spans
     → list_all is_plain text ≡ true → puncts text spans ≡ forest (joint_puncts text spans)
-puncts_are_joint text spans l h = let e : (length text == length spans) ≡ true =
-    eq-eqb (length text) (length spans) l in rw (e, puncts_all text h) refl
+puncts_are_joint text spans l h = grind (arith, puncts_all)
 
 spans_of_puncts : (text : List ℕ) (spans : List Span) → length text ≡ length spans
     → map tree_span (joint_puncts text spans) ≡ spans
@@ -121,8 +110,7 @@ some_puncts (x ∷ (y ∷ xs)) [] o n s c p f some l = absurd (omega (arith, l))
 some_puncts (x ∷ (y ∷ xs)) (t ∷ ts) o n s c p f some l = refl
 
 is_itself : (x : ℕ) → is_plain x ≡ true → (x == x && not (x == apostrophe)) ≡ true
-is_itself x h = let e : (x == x) ≡ true =
-    eq-eqb x x refl in rw e (and_parts (is_punct_or_apostrophe x) _ h).1
+is_itself x h = grind (arith, and_parts)
 
 -- the puncts of a text that stand in front are read
 read_puncts : (text : List ℕ) (spans : List Span) (o : Enclosing) (n s c : ℕ) (p f : Forest)
@@ -178,11 +166,7 @@ module _ (k n : ℕ) (y : Punctuation k n) (some : IsInTable k n) (l : length y.
       (punctuation_message text from) from r to
       → ReadsAs (PunctuationParses (spans_in k n) text text) (punctuation_printed k n) y o m s c f
       from r to
-  punctuation_reads o m s c d f q from to (Ok v) less h = (
-    ap (λ spans. record { spans = spans }) (h.0 ∙ spans_of_puncts text y.spans long),
-    (d, q, less, h.1),
-  )
-  punctuation_reads o m s c d f q from to (Err e) less h = absurd h
+  punctuation_reads o m s c d f q from to r e h = grind (arith, spans_of_puncts, long)
 
   pub punctuation_read_back : IsReadBack
       (PunctuationParses (spans_in k n) (punctuation_word k n) (punctuation_word k n))
@@ -218,8 +202,7 @@ module _ (k n : ℕ) (list : Punctuated Ident (Punctuation k n))
       (PunctuationParses (spans_in k n) (punctuation_word k n) (punctuation_word k n))
       (punctuation_printed k n) (values_of list) (separators_of list) whole 0 (weight written_list)
       from r to → Again r to
-  again_by from to (Ok new) e h = (h.0, h.1, rw (h.2.2, e) refl)
-  again_by from to (Err f) e h = h
+  again_by from to r e h = grind arith
 
   pub read_again : (from to : State) (r : Result (Punctuated Ident (Punctuation k n)) Fault)
       → from ≡ whole_stream written_list call_site
@@ -238,13 +221,4 @@ module _ (k n : ℕ) (list : Punctuated Ident (Punctuation k n))
 -- a stream with nothing to hand up is not refused when it is finished
 pub not_refused : (x : Option Leftover) (f : Fault) (Refused : Leftover → Type 0) → x ≡ None
     → MatchOption x (Err f ≡ Ok (tt {0})) Refused → ⊥
-not_refused None f Refused e h = subst is_err h tt
-  where
-    is_err : Result (Unit {0}) Fault → Type 0
-    is_err (Ok v) = ⊥
-    is_err (Err k) = Unit {0}
-not_refused (Some l) f Refused e h = subst is_some e tt
-  where
-    is_some : Option Leftover → Type 0
-    is_some None = ⊥
-    is_some (Some k) = Unit {0}
+not_refused x f Refused e h = grind arith

@@ -40,8 +40,7 @@ kept_more [] [] true y p e = refl
 kept_more [] [] false y p e = refl
 kept_more [] (q ∷ ps) b y p e = absurd (omega arith)
 kept_more (z ∷ zs) [] b y p e = absurd (omega arith)
-kept_more ((true, w) ∷ zs) (q ∷ ps) b y p e =
-    ap (λ rs. (w, q.1) ∷ rs) (kept_more zs ps b y p (omega arith))
+kept_more ((true, w) ∷ zs) (q ∷ ps) b y p e = grind (arith, kept_more zs ps b y p (omega arith))
 kept_more ((false, w) ∷ zs) (q ∷ ps) b y p e = kept_more zs ps b y p (omega arith)
 
 -- a value that is kept moves to the end of those kept before
@@ -283,17 +282,11 @@ module _ {S X Y : Type 0} (R : S → X → Bool → S → X
   kept_count = sym (ap length first_of_kept) ∙ length-map pairs (λ p. p.0)
 
   all_runs : (b : Bool) → R t v.value b u y → RunsOver R s (values_of old) (run_of ++ (b, y) ∷ []) u
-  all_runs b step =
-      subst (λ (o : Option (Box X)).
-      RunsOver R s (map (λ p. p.0) old.inner.items ++ boxed_values o) (run_of ++ (b, y) ∷ []) u)
-      (sym was) (runs_more R s (map (λ p. p.0) old.inner.items) run_of t v.value b u y kept.1 step)
+  all_runs b step = grind (arith, runs_more)
 
   all_separators : (b : Bool)
       → kept_separators (run_of ++ (b, y) ∷ []) (separators_of old) ≡ map (λ p. p.1) pairs
-  all_separators b =
-      separators_more run_of b y (map (λ p. p.1) old.inner.items) (run_long
-      ∙ sym (length-map old.inner.items (λ p. p.1)))
-      ∙ sym (ap (map (λ p. p.1)) kept.2 ∙ kept_second run_of old.inner.items)
+  all_separators b = grind (arith, separators_more, run_long, length-map, kept_second)
 
   pub retains_last : R t v.value true u y → (w : Box X) → w.value ≡ y → new.last ≡ Some w
       → new.inner.items ≡ pairs → Retains R s old new

@@ -1,6 +1,7 @@
 -- A run is one too where less is said of its rule, its values and its separators, and where the
 -- state of the value parser is seen otherwise.
-use Rattle.std.proofs.Common.{◌≡◌, ◌∙◌, ap, refl, List, [], ◌∷◌, ◌++◌, map, Ok, Err}
+use Rattle.std.proofs.Common.{arith}
+use Rattle.std.proofs.Common.{◌≡◌, ap, refl, List, [], ◌∷◌, map, Ok, Err}
 use Rattle.std.specs.Prelude.{Bool, Option, Result}
 use Rattle.tok_core.specs.Forest.{Forest}
 use Rattle.tok_buffer.specs.Place.{Place}
@@ -21,22 +22,12 @@ pub record Says (rule less : Rule) : Type 0 where
   pub stops : (p : Place) → rule.stops p → less.stops p
 
 pub same_rule : (rule : Rule) → Says rule rule
-same_rule rule = record {
-  begins = λ p h. h;
-  ends = λ p h. h;
-  goes_on = λ p h. h;
-  stops = λ p h. h;
-}
+same_rule rule = grind arith
 
 -- what a peek sees is left out
 pub only_peeks : (peeks : Place → Bool → Type 0) (sees : Option (Forest → Bool))
     → Says (separated (λ p found. peeks p found × Sees sees p found)) (separated peeks)
-only_peeks peeks sees = record {
-  begins = λ p h. h;
-  ends = λ p h. h;
-  goes_on = λ p h. h.0;
-  stops = λ p h. h.0;
-}
+only_peeks peeks sees = grind arith
 
 module _ {T P F G : Type 0} (rule less : Rule) (says : Says rule less) (reads : ValueCall F T)
     (tells : ValueCall G T) (separates signs : Call P) (seen : F → G)
@@ -64,14 +55,7 @@ module _ {T P F G : Type 0} (rule less : Rule) (says : Says rule less) (reads : 
 
   is_turn_seen : (f : F) (s : State) (turn : Turn T P F) → IsTurn rule reads separates f s turn
       → IsTurn less tells signs (seen f) s (turn_seen turn)
-  is_turn_seen f s turn i = record {
-    opens = (
-      says.begins s.place i.opens.0,
-      retold f turn.parser s turn.between (Ok turn.value) i.opens.1,
-    );
-    goes_on = says.goes_on turn.between.place i.goes_on;
-    closes = signed turn.between turn.after (Ok turn.separator) i.closes;
-  }
+  is_turn_seen f s turn i = grind arith
 
   chain_seen : (turns : List (Turn T P F)) (f g : F) (s t : State)
       → Chain rule reads separates f s turns g t
@@ -82,9 +66,7 @@ module _ {T P F G : Type 0} (rule less : Rule) (says : Says rule less) (reads : 
 
   holds_seen : (turns : List (Turn T P F)) (more : List T) (r : Result (Punctuated T P) Fault)
       → Holds turns more r → Holds (map turn_seen turns) more r
-  holds_seen turns more (Ok list) h =
-      (h.0 ∙ ap (λ xs. xs ++ more) (values_seen turns), h.1 ∙ separators_seen turns)
-  holds_seen turns more (Err e) h = absurd h
+  holds_seen turns more r h = grind (arith, values_seen, separators_seen)
 
   ending_seen : (turns : List (Turn T P F)) (f : F) (s t : State)
       (r : Result (Punctuated T P) Fault) → Ending rule reads separates f s turns r t

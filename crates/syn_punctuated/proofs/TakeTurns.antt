@@ -41,19 +41,12 @@ module _ {A P : Type 0} (begins goes_on : Ahead → Bool) (value : Taking A) (si
       (same : (c : Ahead) → weight c.trees < weight a.trees → turns n c ≡ turns m c) where
     at-sign : (v : A) (b : Ahead) → weight b.trees ≤ weight a.trees → (o : Outcome P) → sign b ≡ o
         → and_then o (λ p c. after_sign n v p c) ≡ and_then o (λ p c. after_sign m v p c)
-    at-sign v b l (missing m) e = refl
-    at-sign v b l (found p c) e =
-        let less = lower.less b c p e in
-        ap (λ o. and_then o (λ rest d. found (v ∷ rest.0, p ∷ rest.1) d))
-        (same c (omega (arith, less)))
+    at-sign v b l o e = grind arith
 
     one-turn : (o : Outcome A) → value a ≡ o
         → cond (begins a) (and_then o (after_value n)) (found ([], []) a)
         ≡ cond (begins a) (and_then o (after_value m)) (found ([], []) a)
-    one-turn (missing m) e = refl
-    one-turn (found v b) e =
-        ap (λ o. cond (begins a) (cond (goes_on b) o (found (v ∷ [], []) b)) (found ([], []) a))
-        (at-sign v b (lighter.less a b v e) (sign b) refl)
+    one-turn o e = grind (arith, at-sign)
 
   enough : (n m : ℕ) (a : Ahead) → weight a.trees < n → weight a.trees < m → turns n a ≡ turns m a
   enough zero m a h k = absurd (omega arith)
@@ -63,8 +56,7 @@ module _ {A P : Type 0} (begins goes_on : Ahead → Bool) (value : Taking A) (si
       refl
 
   before-none : (o : Outcome Both) → o ≡ before ([], []) o
-  before-none (missing m) = refl
-  before-none (found x d) = refl
+  before-none o = grind arith
 
   pub no-turns : (s : Ahead) → SoFar s ([], []) s
   no-turns s = before-none (take s)
@@ -83,9 +75,7 @@ module _ {A P : Type 0} (begins goes_on : Ahead → Bool) (value : Taking A) (si
   turn_begins : (a b : Ahead) (v : A) → begins a ≡ true → value a ≡ found v b
       → take a ≡ after_value (weight a.trees) v b
   unfolding take_list
-  turn_begins a b v e h =
-      ap (λ t. cond t (and_then (value a) (after_value (weight a.trees))) (found ([], []) a)) e
-      ∙ ap (λ o. and_then o (after_value (weight a.trees))) h
+  turn_begins a b v e h = grind arith
 
   pub last-turn : (s : Ahead) (x : Both) (a b : Ahead) (v : A) → SoFar s x a → begins a ≡ true
       → value a ≡ found v b → goes_on b ≡ false → take s ≡ found (x.0 ++ v ∷ [], x.1) b
@@ -101,18 +91,7 @@ module _ {A P : Type 0} (begins goes_on : Ahead → Bool) (value : Taking A) (si
   went : (a b c : Ahead) (v : A) (p : P) → begins a ≡ true → value a ≡ found v b
       → goes_on b ≡ true → sign b ≡ found p c → take a ≡ before (v ∷ [], p ∷ []) (take c)
   unfolding take_list
-  went a b c v p e h k m =
-      let less = lower.less b c p m in
-      let no_more = lighter.less a b v h in
-      turn_begins a b v e h
-      ∙ ap
-      (λ t. cond t (and_then (sign b) (λ q d. after_sign (weight a.trees) v q d))
-      (found (v ∷ [], []) b))
-      k
-      ∙ ap (λ o. and_then o (λ q d. after_sign (weight a.trees) v q d)) m
-      ∙ ap (λ o. and_then o (λ rest d. found (v ∷ rest.0, p ∷ rest.1) d))
-      (enough (weight a.trees) (suc (weight c.trees)) c (omega (arith, less, no_more))
-      (omega arith))
+  went a b c v p e h k m = grind (arith, turn_begins, enough)
 
   before-before : (x : Both) (v : A) (p : P) (o : Outcome Both)
       → before x (before (v ∷ [], p ∷ []) o) ≡ before (x.0 ++ v ∷ [], x.1 ++ p ∷ []) o
@@ -131,11 +110,7 @@ module _ {A P : Type 0} (begins goes_on : Ahead → Bool) (value : Taking A) (si
   pub no-value : (s : Ahead) (x : Both) (a : Ahead) (lack : Missing) → SoFar s x a
       → begins a ≡ true → value a ≡ missing lack → take s ≡ missing lack
   unfolding take_list
-  no-value s x a lack h e k =
-      h
-      ∙ ap (λ t. before x (cond t (and_then (value a) (after_value (weight a.trees)))
-      (found ([], []) a))) e
-      ∙ ap (λ o. before x (and_then o (after_value (weight a.trees)))) k
+  no-value s x a lack h e k = grind arith
 
   pub no-sign : (s : Ahead) (x : Both) (a b : Ahead) (v : A) (lack : Missing) → SoFar s x a
       → begins a ≡ true → value a ≡ found v b → goes_on b ≡ true → sign b ≡ missing lack

@@ -1,11 +1,12 @@
 -- Reads of leaves take the trees that they return from those ahead.
-use Rattle.std.proofs.Common.{◌≡◌, ◌∙◌, sym, ap, refl, subst, ◌+◌, Bool, true, false, List, []}
+use Rattle.std.proofs.Common.{arith}
+use Rattle.std.proofs.Common.{◌≡◌, ◌∙◌, sym, ap, refl, Bool, List, []}
 use Rattle.std.proofs.Common.{◌∷◌, ◌++◌, append_assoc, Option, Some, None}
 use Rattle.std.specs.Prelude.{cond, IfSome}
-use Rattle.tok_core.specs.Forest.{Tree, leaf, group, Forest, no_trees, tree, forest}
+use Rattle.tok_core.specs.Forest.{Tree, Forest, no_trees, tree, forest}
 use Rattle.tok_buffer.specs.Descent.{descend}
 use Rattle.tok_buffer.specs.EachRead.{First, Read}
-use Rattle.tok_buffer.specs.Place.{frame, Place, empty_place, at}
+use Rattle.tok_buffer.specs.Place.{Place}
 use Rattle.tok_buffer.specs.Reads.{read_then, read_if}
 use Rattle.tok_buffer.proofs.View.Unmarked.{plain-ahead}
 use Rattle.tok_buffer.proofs.View.Readings.{Reading, never, one, more, IsOfLeaves}
@@ -34,25 +35,15 @@ Takes ts r = IfSome r (λ x. ts ≡ x.0 ++ shown_at x.1)
 
 if_wanted : (b : Bool) (ts : List Tree) (t : Tree) (q : Place) → ts ≡ t ∷ shown_at q
     → Takes ts (cond b (Some (t ∷ [], q)) None)
-if_wanted true ts t q h = h
-if_wanted false ts t q h = tt
+if_wanted b ts t q h = grind arith
 
 take_is : (wanted : Tree → Bool) → IsOfLeaves wanted → (p : Place)
     → Takes (shown_at p) (read_if wanted p)
-take_is wanted none empty_place = tt
-take_is wanted none (at n s c (frame o passed no_trees) ls) = tt
-take_is wanted none (at n s c (frame o passed (tree (leaf l) f)) ls) =
-    if_wanted (wanted (leaf l)) _ (leaf l) _
-    (ap (λ g. leaf l ∷ list_trees g)
-    (sym (trees_ahead-leave_finished n s (c + 1) (frame o (tree (leaf l) passed) f) ls)))
-take_is wanted none (at n s c (frame o passed (tree (group d inside span) f)) ls) =
-    rw (none d inside span) tt
+take_is wanted h p = grind (arith, if_wanted, trees_ahead-leave_finished)
 
 one_is : (wanted : Tree → Bool) → IsOfLeaves wanted → (p : Place)
     → Takes (shown_at p) (read_if wanted (descend p))
-one_is wanted none p =
-    subst (λ f. Takes (list_trees f) (read_if wanted (descend p))) (trees_ahead-descend p)
-    (take_is wanted none (descend p))
+one_is wanted none p = grind (arith, trees_ahead-descend, take_is)
 
 then_is : (ts : List Tree) (x : Option (List Tree × Place)) (g : Read)
     → Takes ts x → ((q : Place) → Takes (shown_at q) (g q)) → Takes ts (read_then x g)

@@ -8,17 +8,14 @@ use Rattle.syn_parse.proofs.Failing.{fails_on, says_memory, stays_along, stays_h
 use Rattle.syn_parse.proofs.Scopes.{in_one_scope}
 use Rattle.syn_parse.specs.Faults.{IsMemory}
 use Rattle.syn_parse.specs.Reads.{Call}
-use Rattle.syn_parse.specs.Positions.{scope_trees}
 use Rattle.syn_parse.specs.State.{State}
 use Rattle.syn_parse.specs.TreesAhead.{Ahead, ahead, scope_of}
 use Rattle.syn_parse.specs.Takings.{Lightens, Lowers}
 use Rattle.syn_parse.specs.Takes.{Stays, TakesAs, Taking, found}
 use Rattle.syn_parse.specs.declared.fault.Fault.{Fault}
-use Rattle.syn_parse.specs.declared.fault.Fault.TheVariants.{Refused, Memory}
 use Rattle.syn_punctuated.proofs.TakeTurns.{SoFar, all-turns, last-turn, more-turns, no-sign}
 use Rattle.syn_punctuated.proofs.TakeTurns.{no-turns}
 use Rattle.syn_punctuated.proofs.TakeTurns.{no-value}
-use Rattle.syn_punctuated.specs.Lists.{separators_of}
 use Rattle.syn_punctuated.specs.TakeLists.{list_form, take_list}
 use Rattle.syn_punctuated.specs.Turns.{Rule, ValueCall, Turn, turn_value, turn_separator, Chain}
 use Rattle.syn_punctuated.specs.Turns.{Holds, IsTurn, IsRun, Ending, at_end, bare, value_refused}
@@ -67,11 +64,7 @@ module _ {T P F A S : Type 0} (rule : Rule) (reads : ValueCall F T) (separates :
         (turns_form turns).0 ++ form turn.value ∷ [],
         (turns_form turns).1 ++ shape turn.separator ∷ [],
       )
-  form-last turns turn =
-      ap (λ vs. (vs, map shape (map turn_separator (turns ++ turn ∷ []))))
-      (map-last turn_value form turns turn)
-      ∙ ap (λ ps. ((turns_form turns).0 ++ form turn.value ∷ [], ps))
-      (map-last turn_separator shape turns turn)
+  form-last turns turn = grind (arith, map-last)
 
   step : (start : State) (turns : List (Turn T P F)) (f : F) (s : State) (turn : Turn T P F)
       → Taken start turns s → IsTurn rule reads separates f s turn
@@ -110,18 +103,11 @@ module _ {T P F A S : Type 0} (rule : Rule) (reads : ValueCall F T) (separates :
   as-list : (turns : List (Turn T P F)) (more : List T) (list : Punctuated T P)
       → Holds turns more (Ok list)
       → list_form form shape list ≡ ((turns_form turns).0 ++ map form more, (turns_form turns).1)
-  as-list turns more list h =
-      ap (λ vs. (map form vs, map shape (separators_of list))) h.0
-      ∙ ap (λ vs. (vs, map shape (separators_of list)))
-      (map-append form (map turn_value turns) more)
-      ∙ ap (λ ps. ((turns_form turns).0 ++ map form more, map shape ps)) h.1
+  as-list turns more list h = grind (arith, map-append)
 
   memory_fails : (start t : State) (r : Result (Punctuated T P) Fault) (e : Fault) → IsMemory e
       → r ≡ Err e → TakesAs (list_form form shape) take start r t
-  memory_fails start t r (Refused d) m h = absurd m
-  memory_fails start t r (Memory d) m h =
-      subst (λ x. TakesAs (list_form form shape) take start x t) (sym h)
-      (tt, λ i. says_memory (scope_trees start.place) start.scope_span (take (ahead start)) d)
+  memory_fails start t r e m h = grind (arith, says_memory)
 
   ending_takes : (start : State) (turns : List (Turn T P F)) (f : F) (s t : State)
       (r : Result (Punctuated T P) Fault) → Taken start turns s

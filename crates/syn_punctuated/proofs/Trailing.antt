@@ -1,5 +1,5 @@
 -- Whether a list that `retain` left ends in a separator.
-use Rattle.std.proofs.Common.{◌≡◌, ◌==◌, ◌&&◌, not, ℕ, ◌+◌, ◌-◌, ◌<◌, ◌≤◌, Bool, true, false, List}
+use Rattle.std.proofs.Common.{◌≡◌, ◌==◌, ◌&&◌, not, ℕ, ◌+◌, ◌<◌, ◌≤◌, Bool, true, false, List}
 use Rattle.std.proofs.Common.{[], ◌∷◌, ◌++◌, length, map, Option, None, Some, refl, sym, ap, ◌∙◌}
 use Rattle.std.proofs.Common.{arith, inl, inr, ◌⊎◌}
 use Rattle.std.proofs.lemmas.Bool.Decides.{nat_tests}
@@ -70,22 +70,16 @@ module _ {S X Y : Type 0} (R : S → X → Bool → S → X
   values_long = ap length h.values
 
   pub retains_trailing_punct : is_trailing new ≡ is_trailing old
-  retains_trailing_punct = elim (even_or_bare old) [
-    | inl even ↦
-        let as_many : length (values_of new) ≡ length (separators_of new) =
-        values_long ∙ sym (kept_as_many h.run (separators_of old) (run_long ∙ even))
-        ∙ sym (ap length (h.trailing even)) in
-        let filled : 0 < length (values_of old) =
-        omega (arith, some, values_long, kept_at_most h.run, run_long) in
-        even_is (length (values_of new)) (length (separators_of new)) some as_many
-        ∙ sym (even_is (length (values_of old)) (length (separators_of old)) filled even)
-    | inr bare ↦
-        let taken : length (separators_of new) ≡ length (kept_values h.run) - 1 =
-        ap length (h.bare bare)
-        ∙ length-take-le (length (kept_values h.run) - 1)
-        (kept_separators h.run (separators_of old))
-        (omega (arith, kept_one_fewer h.run (separators_of old) (run_long ∙ bare))) in
-        bare_is (length (values_of new)) (length (separators_of new))
-        (omega (arith, taken, values_long, some))
-        ∙ sym (bare_is (length (values_of old)) (length (separators_of old)) bare)
-  ]
+  retains_trailing_punct =
+      grind (
+        arith,
+        even_or_bare,
+        values_long,
+        kept_as_many,
+        run_long,
+        kept_at_most,
+        even_is,
+        length-take-le,
+        kept_one_fewer,
+        bare_is,
+      )

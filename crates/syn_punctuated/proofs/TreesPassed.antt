@@ -1,16 +1,16 @@
 -- The trees that a run of a list parser passes.
-use Rattle.std.proofs.Common.{◌≡◌, ◌∙◌, inl, inr, sym, ap, refl, subst, ℕ, Bool, true, false}
+use Rattle.std.proofs.Common.{arith}
+use Rattle.std.proofs.Common.{◌≡◌, ◌∙◌, inl, sym, ap, refl, ℕ, Bool, true}
 use Rattle.std.proofs.Common.{List, [], ◌∷◌, ◌++◌, map, append_assoc, Option, Some, None, Ok, Err}
-use Rattle.std.proofs.Common.{eqb-true}
-use Rattle.std.specs.Prelude.{Result, IfSome, cond, not, ◌==◌}
+use Rattle.std.specs.Prelude.{IfSome}
 use Rattle.std.proofs.lemmas.Bool.{and_parts}
 use Rattle.tok_leaves.specs.declared.ident.Ident.{Ident}
 use Rattle.tok_leaves.specs.declared.punct.Spacing.{Spacing}
 use Rattle.tok_core.specs.Forest.{tree_span, Tree, leaf, group}
-use Rattle.tok_leaves.specs.declared.punct.Spacing.TheVariants.{Alone, Joint}
-use Rattle.tok_leaves.specs.Leaves.{ident, punct, literal, apostrophe}
+use Rattle.tok_leaves.specs.declared.punct.Spacing.TheVariants.{Joint}
+use Rattle.tok_leaves.specs.Leaves.{ident, punct, literal}
 use Rattle.tok_buffer.specs.Descent.{descend}
-use Rattle.tok_buffer.specs.Place.{Place, front, pass, is_at_end}
+use Rattle.tok_buffer.specs.Place.{Place, is_at_end}
 use Rattle.tok_buffer.specs.Reads.{read_then, is_joint_of, is_punct_of, read_punctuation, read_word}
 use Rattle.tok_buffer.specs.Reads as reads
 use Rattle.tok_buffer.specs.declared.error.Message.{Message}
@@ -33,11 +33,7 @@ use Rattle.tok_buffer.proofs.View.Readings.{of_word, of_punctuation}
 use Rattle.syn_punctuated.proofs.Taken.{reading_takes}
 
 ok_is_no_err : {A B : Type 0} (v : A) (e : B) → Ok v ≡ Err e → ⊥
-ok_is_no_err {A} {B} v e q = subst is_ok q tt
-  where
-    is_ok : Result A B → Type 0
-    is_ok (Ok v) = Unit {0}
-    is_ok (Err v) = ⊥
+ok_is_no_err {A} {B} v e q = grind arith
 
 module _ {T P : Type 0} (sources : T → List (List Tree)) (between : P → List (List Tree))
     (values : Call T) (separators : Call P) where
@@ -97,13 +93,7 @@ module _ {T P : Type 0} (sources : T → List (List Tree)) (between : P → List
 
   ends_at_end : (turns : List TheTurn) (g : Unit {0}) (m t : State) (list : Punctuated T P)
       → Ending terminated value_reads separators g m turns (Ok list) t → is_at_end t.place ≡ true
-  ends_at_end turns g m t list (at_end i q h) = ap (λ (z : State). is_at_end z.place) q ∙ i
-  ends_at_end turns g m t list (bare v k b i h) = i
-  ends_at_end turns g m t list (value_refused e k b q) = absurd (ok_is_no_err list e q)
-  ends_at_end turns g m t list (separator_refused v k u e b i h q) = absurd (ok_is_no_err list e q)
-  ends_at_end turns g m t list (value_lost v k e b i h q) = absurd (ok_is_no_err list e q)
-  ends_at_end turns g m t list (turn_lost turn e i q h j) = absurd (ok_is_no_err list e j)
-  ends_at_end turns g m t list (stuck turn e i q u h j) = absurd (ok_is_no_err list e j)
+  ends_at_end turns g m t list h = grind (arith, ok_is_no_err)
 
   pub lists_have_their_trees : (peeks : Place → Bool → Type 0)
       → ListsHaveTheirTrees sources between values separators peeks
@@ -138,20 +128,7 @@ IsTaken Wanted r = IfSome r (λ x. (t : Tree) × Wanted t × (x.0 ≡ t ∷ []))
 wanted_is_taken : (wanted : Tree → Bool) (Wanted : Tree → Type 0)
     → ((t : Tree) → wanted t ≡ true → Wanted t)
     → (p : Place) → IsTaken Wanted (reads.read_if wanted p)
-wanted_is_taken wanted Wanted is p = by (front p)
-  where
-    if_wanted : (t : Tree) (b : Bool) → wanted t ≡ b
-        → IsTaken Wanted (cond b (Some (t ∷ [], pass p)) None)
-    if_wanted t true e = (t, is t e, refl)
-    if_wanted t false e = tt
-
-    by : (x : Option Tree) → IsTaken Wanted (elim x [
-      | Some t ↦ cond (wanted t)
-          (Some (t ∷ [], pass p)) None
-      | None ↦ None
-    ])
-    by None = tt
-    by (Some t) = if_wanted t (wanted t) refl
+wanted_is_taken wanted Wanted is p = grind arith
 
 -- a punct of a character, alone or joint
 abbrev IsPunctOf : ℕ → Tree → Type 0
@@ -161,23 +138,13 @@ abbrev IsJointOf : ℕ → Tree → Type 0
 IsJointOf c t = t ≡ leaf (punct c Joint (tree_span t))
 
 of_single : (c : ℕ) (t : Tree) → is_punct_of c t ≡ true → IsPunctOf c t
-of_single c (leaf (punct k spacing span)) h = (
-  spacing,
-  ap (λ z. leaf (punct z spacing span))
-      (eqb-true k c (and_parts (k == c) (not (k == apostrophe)) h).0),
-)
+of_single c (leaf (punct k spacing span)) h = grind (arith, and_parts)
 of_single c (leaf (ident text span)) h = cc
 of_single c (leaf (literal text span)) h = cc
 of_single c (group d inside span) h = cc
 
 of_joint : (c : ℕ) (t : Tree) → is_joint_of c t ≡ true → IsJointOf c t
-of_joint c (leaf (punct k Joint span)) h =
-    ap (λ z. leaf (punct z Joint span))
-    (eqb-true k c (and_parts (k == c) (not (k == apostrophe)) h).0)
-of_joint c (leaf (punct k Alone span)) h = cc
-of_joint c (leaf (ident text span)) h = cc
-of_joint c (leaf (literal text span)) h = cc
-of_joint c (group d inside span) h = cc
+of_joint c t h = grind (arith, and_parts)
 
 -- the puncts of a text
 abbrev Ends : List ℕ → List Tree → Type 0
@@ -187,29 +154,20 @@ abbrev Spells : List ℕ → Option (List Tree × Place) → Type 0
 Spells text r = IfSome r (λ x. Ends text x.0)
 
 one_spelled : (c : ℕ) (r : Option (List Tree × Place)) → IsTaken (IsPunctOf c) r → Spells (c ∷ []) r
-one_spelled c None h = tt
-one_spelled c (Some x) h = (h.1.0, rw h.2 (ap (λ z. z ∷ []) h.1.1))
+one_spelled c r h = grind arith
 
 more_spelled : (c d : ℕ) (cs : List ℕ) (t : Tree) (ts us whole : List Tree) → IsJointOf c t
     → ts ≡ t ∷ [] → Ends (d ∷ cs) us → whole ≡ ts ++ us → Ends (c ∷ (d ∷ cs)) whole
-more_spelled c d cs t ts us whole j e h w =
-    let same : whole ≡ t ∷ us = w ∙ ap (λ z. z ++ us) e in
-    (h.0, rw same (ap (λ z. z ∷ us) j ∙ ap (λ z. leaf (punct c Joint (tree_span t)) ∷ z) h.1))
+more_spelled c d cs t ts us whole j e h w = grind arith
 
 then_spelled : (c d : ℕ) (cs : List ℕ) (x : Option (List Tree × Place))
     (g : Place → Option (List Tree × Place)) → IsTaken (IsJointOf c) x
     → ((q : Place) → Spells (d ∷ cs) (g q)) → Spells (c ∷ (d ∷ cs)) (read_then x g)
-then_spelled c d cs None g h k = tt
-then_spelled c d cs (Some x) g h k = go (g x.1) (k x.1) where
-  go : (y : Option (List Tree × Place)) → Spells (d ∷ cs) y
-      → Spells (c ∷ (d ∷ cs)) (elim y [ Some q ↦ Some (x.0 ++ q.0, q.1) | None ↦ None ])
-  go None e = tt
-  go (Some q) e = more_spelled c d cs h.0 x.0 q.0 (x.0 ++ q.0) h.1 h.2 e refl
+then_spelled c d cs x g h k = grind (arith, more_spelled)
 
 text_spelled : (text : List ℕ) (p : Place) → Spells text (read_punctuation text p)
 text_spelled [] p = tt
-text_spelled (c ∷ []) p = one_spelled c (reads.read_if (is_punct_of c) (descend p))
-    (wanted_is_taken (is_punct_of c) (IsPunctOf c) (of_single c) (descend p))
+text_spelled (c ∷ []) p = grind (arith, one_spelled, wanted_is_taken, of_single)
 text_spelled (c ∷ (d ∷ cs)) p = then_spelled c d cs (reads.read_if (is_joint_of c) (descend p))
     (read_punctuation (d ∷ cs))
     (wanted_is_taken (is_joint_of c) (IsJointOf c) (of_joint c) (descend p))
@@ -218,12 +176,7 @@ text_spelled (c ∷ (d ∷ cs)) p = then_spelled c d cs (reads.read_if (is_joint
 module _ (k n : ℕ) where
   is_source : (p : Punctuation k n) (ts : List Tree) → AreSpans p.spans ts
       → Ends (punctuation_word k n) ts → IsOneOf (punctuation_sources p) ts
-  is_source p ts a e = by e.0 (e.1 ∙ ap (puncts_ending e.0 (punctuation_word k n)) (sym a))
-    where
-      by : (last : Spacing) → ts ≡ puncts_ending last (punctuation_word k n) p.spans
-          → IsOneOf (punctuation_sources p) ts
-      by Alone q = inl q
-      by Joint q = inr (inl q)
+  is_source p ts a e = grind arith
 
   punctuation_read : (s t : State) (p : Punctuation k n) (x : Option (List Tree × Place))
       → IfSome x (λ r. trees_ahead s.place ≡ r.0 ++ trees_ahead r.1)

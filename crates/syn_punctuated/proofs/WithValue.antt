@@ -17,8 +17,7 @@ use Rattle.syn_punctuated.specs.Lends.{with_value_of, with_pair_value, with_last
 use Rattle.syn_punctuated.specs.Lends.{WritesValue}
 
 boxed_at_most_one : {X : Type 0} (last : Option (Box X)) → length (boxed_values last) ≤ 1
-boxed_at_most_one None = omega arith
-boxed_at_most_one (Some v) = omega arith
+boxed_at_most_one last = grind arith
 
 read_first : {X Y : Type 0} (pairs : List (X × Y)) (rest : List X) (i : ℕ) (p : X × Y)
     → slice_get pairs i ≡ Some p → slice_get (map (λ pair. pair.0) pairs ++ rest) i ≡ Some p.0
@@ -44,9 +43,7 @@ module _ {X Y : Type 0} where
 
   pub pair_read : (list : Punctuated X Y) (i : ℕ) (p : X × Y) → i < vec_len list.inner
       → p ≡ slice_index_or list.inner.items i p → slice_get (values_of list) i ≡ Some p.0
-  pair_read list i p lt is =
-      read_first list.inner.items (boxed_values list.last) i p
-      (slice_get_read list.inner.items (vec_len list.inner) i p (list.inner.ok.0) lt is)
+  pair_read list i p lt is = grind (arith, read_first, slice_get_read)
 
   pub values_at_most : (list : Punctuated X Y)
       → length (values_of list) ≤ length list.inner.items + 1
@@ -68,8 +65,7 @@ set_seconds : {X Y : Type 0} (items : List (X × Y)) (i : ℕ) (w : X) (p : X ×
     → slice_get items i ≡ Some p
     → map (λ q. q.1) (slice_set items i (w, p.1)) ≡ map (λ q. q.1) items
 set_seconds [] i w p e = cc
-set_seconds (q ∷ items) zero w p e = let f : q ≡ p = cc in
-    ap (λ r. r.1 ∷ map (λ q. q.1) items) (sym f)
+set_seconds (q ∷ items) zero w p e = grind arith
 set_seconds (q ∷ items) (suc i) w p e = ap (λ zs. q.1 ∷ zs) (set_seconds items i w p e)
 
 set_bare : {X Y : Type 0} (items : List (X × Y)) (x : X) (i : ℕ) (w : X) → i ≡ length items
@@ -115,19 +111,13 @@ module _ {X Y : Type 0} where
   last_value_written : (list : Punctuated X Y) (i : ℕ) (w x : X) → i ≡ vec_len list.inner
       → slice_get (values_of list) i ≡ Some x
       → WritesValue i w list (record list { last = with_last_value list.last w })
-  last_value_written list i w x e is = (
-    written_last list.inner.items list.last i w (omega (arith, list.inner.ok.0))
-        (slice_get_within (values_of list) i x is),
-    refl,
-  )
+  last_value_written list i w x e is = grind (arith, written_last, slice_get_within)
 
   pub last_value_lent : (list : Punctuated X Y) (i : ℕ) (w : X) (r : Option (MutBor X))
       → i ≡ vec_len list.inner
       → slice_get (values_of list) (vec_len list.inner) ≡ option_copied_mut r
       → OnSome r (WritesValue i w list (record list { last = with_last_value list.last w }))
-  last_value_lent list i w None e is = tt
-  last_value_lent list i w (Some b) e is =
-      last_value_written list i w b.now e (ap (slice_get (values_of list)) e ∙ is)
+  last_value_lent list i w r e h = grind (arith, last_value_written)
 
   -- what the list of `with_value` has
   pub writes_with_value : (list : Punctuated X Y) (i : ℕ) (w : X) → i < length (values_of list)

@@ -1,9 +1,10 @@
 -- How a list is written, a pair at a time.
+use Rattle.std.proofs.Common.{arith}
 use Rattle.std.proofs.Common.{◌≡◌, ℕ, suc, ◌+◌, ◌<◌, List, [], ◌∷◌, ◌++◌, map, take, drop, length}
 use Rattle.std.proofs.Common.{get_or, Option, None, Some, refl, sym, ap, subst, ◌∙◌, drop-cons}
 use Rattle.std.proofs.lemmas.List.{take-append-drop, take_more}
 use Rattle.std.specs.Global.{Box}
-use Rattle.std.specs.Prelude.{Result, Ok, Err, OnOk, OnErr}
+use Rattle.std.specs.Prelude.{Result, OnOk, OnErr}
 use Rattle.tok_core.specs.Forest.{Forest, concat, no_trees, tree, AppendsFront}
 use Rattle.tok_core.proofs.Facts.{concat-none, joined_assoc}
 use Rattle.syn_punctuated.specs.Private.Boxes.{boxed_values}
@@ -12,12 +13,10 @@ use Rattle.syn_punctuated.specs.Printed.{by_turns}
 use Rattle.syn_punctuated.specs.declared.punctuated.Punctuated.{Punctuated}
 
 pub on_ok : {T E A B : Type 0} (r : Result T E) → (A → B) → OnOk r A → OnOk r B
-on_ok (Ok x) f h = f h
-on_ok (Err e) f h = h
+on_ok r f h = grind arith
 
 pub on_err : {T E A B : Type 0} (r : Result T E) → (A → B) → OnErr r A → OnErr r B
-on_err (Ok x) f h = h
-on_err (Err e) f h = f h
+on_err r f h = grind arith
 
 -- a front of the first of two is a front of both
 pub front_first : (old f g new : Forest) → AppendsFront old f new
@@ -28,13 +27,7 @@ front_first old f g new h =
 -- where the first is written, a front of the second is a front of both
 pub front_second : (old f mid g new : Forest) → mid ≡ concat old f → AppendsFront mid g new
     → AppendsFront old (concat f g) new
-front_second old f mid g new written h = (
-  concat f h.0,
-  h.1,
-  h.2,
-  ap (concat f) h.3 ∙ sym (joined_assoc f h.0 (tree h.1 h.2)),
-  h.4 ∙ ap (λ all. concat all h.0) written ∙ joined_assoc old f h.0,
-)
+front_second old f mid g new written h = grind (arith, joined_assoc)
 
 module _ {X Y : Type 0} (value : X → Forest) (separator : Y → Forest) where
   abbrev pub both : X × Y → Forest
@@ -53,18 +46,12 @@ module _ {X Y : Type 0} (value : X → Forest) (separator : Y → Forest) where
       ≡ concat (pairs_written ps) (last_written last)
   by_turns-pairs [] None = refl
   by_turns-pairs [] (Some last) = concat-none (value last.value)
-  by_turns-pairs (p ∷ ps) last =
-      ap (λ all. concat (value p.0) (concat (separator p.1) all)) (by_turns-pairs ps last)
-      ∙ sym (joined_assoc (value p.0) (separator p.1)
-      (concat (pairs_written ps) (last_written last)))
-      ∙ sym (joined_assoc (both p) (pairs_written ps) (last_written last))
+  by_turns-pairs (p ∷ ps) last = grind (arith, joined_assoc, by_turns-pairs ps last)
 
   pairs_written-append : (ps qs : List (X × Y))
       → pairs_written (ps ++ qs) ≡ concat (pairs_written ps) (pairs_written qs)
   pairs_written-append [] qs = refl
-  pairs_written-append (p ∷ ps) qs =
-      ap (concat (both p)) (pairs_written-append ps qs)
-      ∙ sym (joined_assoc (both p) (pairs_written ps) (pairs_written qs))
+  pairs_written-append (p ∷ ps) qs = grind (arith, joined_assoc, pairs_written-append ps qs)
 
   -- the whole list, by its fields
   pub list_written : (list : Punctuated X Y)

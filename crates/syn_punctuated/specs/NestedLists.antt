@@ -1,9 +1,9 @@
 -- Lists in values that hold values of their own kind.
+use Rattle.std.proofs.Common.{arith}
 use Rattle.std.proofs.Common.{ℕ, zero, suc, Bool}
 use Rattle.tok_core.specs.Weight.{weight}
 use Rattle.syn_parse.specs.Lighter.{lessens_bind, lessens_where, lightens_gives, lightens_lower}
-use Rattle.syn_parse.specs.Nested.{Descends, descending, descends_bind, descends_same}
-use Rattle.syn_parse.specs.Nested.{descends_where}
+use Rattle.syn_parse.specs.Nested.{Descends, descending, descends_same}
 use Rattle.syn_parse.specs.Takes.{Taking}
 use Rattle.syn_parse.specs.Takings.{Lightens, Lowers}
 use Rattle.syn_parse.specs.TreesAhead.{Ahead}
@@ -15,13 +15,7 @@ module _ (slack : ℕ) {A B P : Type 0} (begins goes_on : Ahead → Bool)
   -- so many turns of a list ask no more of the parser than its values do
   turns_descend : (n : ℕ) → Descends slack (λ m. take_turns n begins goes_on (value m) sign)
   turns_descend zero = descends_same slack _ (record { less = λ a b v e. absurd (cc) })
-  turns_descend (suc n) =
-      descends_where slack begins _ _
-      (descends_bind slack value _ h (λ v. descends_where slack goes_on _ _
-      (descends_bind slack (λ m. sign) _ (descends_same slack sign light)
-      (λ p. descends_bind slack (λ m. take_turns n begins goes_on (value m) sign) _
-      (turns_descend n) (λ rest. descends_same slack _ (lightens_gives _))))
-      (descends_same slack _ (lightens_gives _)))) (descends_same slack _ (lightens_gives _))
+  turns_descend (suc n) = grind (arith, turns_descend n)
 
   -- a list asks no more of the parser that it is made of than its values do
   pub descends_list : Descends slack (λ m. take_list begins goes_on (value m) sign)
