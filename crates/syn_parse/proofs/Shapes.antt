@@ -28,7 +28,7 @@ use Rattle.syn_parse.specs.ErrorWords.{span_in}
 use Rattle.syn_parse.specs.Lighter.{group_is_first}
 use Rattle.syn_parse.specs.TokenNames.{Name, take}
 use Rattle.syn_parse.specs.Tokens as token
-use Rattle.syn_parse.specs.Tokens.{Kind, lifetime_in, take_ident, take_literal, take_token}
+use Rattle.syn_parse.specs.Tokens.{TokenKind, lifetime_in, take_ident, take_literal, take_token}
 use Rattle.syn_parse.specs.Positions.{Missing}
 use Rattle.syn_parse.specs.TreesAhead.{Ahead, all_taken, only_trees, unread_after}
 use Rattle.syn_parse.specs.Takes.{Outcome, Taking, found, and_then, read_as, take_by, take_group}
@@ -245,7 +245,7 @@ lifetimes accept =
     two_reads _ _ _ _ (first_tree is_joint_apostrophe) (first_tree (is_ident_of accept))
 
 -- a token is these trees
-abbrev pub IsToken : {A : Type 0} → Kind A → A → List Tree → Type 0
+abbrev pub IsToken : {A : Type 0} → TokenKind A → A → List Tree → Type 0
 IsToken token.ident v ts = IsAccepted accept_as_ident v ts
 IsToken token.any_ident v ts = IsIdent v ts
 IsToken token.lifetime v ts = IsAcceptedLifetime accept_as_lifetime v ts
@@ -257,12 +257,12 @@ IsToken (token.keyword k) v ts = IsSpanOf (keyword_text k) v.span ts
 IsToken (token.punctuation k n) v ts = IsPunctuation k n v ts
 
 -- the text of a word is not empty
-abbrev pub IsWritten : {A : Type 0} → Kind A → Type 0
+abbrev pub IsWritten : {A : Type 0} → TokenKind A → Type 0
 IsWritten (token.own text) = IsFull text
 IsWritten (token.keyword k) = IsFull (keyword_text k)
 IsWritten t = Unit {0}
 
-pub token_shape : {A : Type 0} (t : Kind A) → IsWritten t → Shape (IsToken t) (take_token t)
+pub token_shape : {A : Type 0} (t : TokenKind A) → IsWritten t → Shape (IsToken t) (take_token t)
 unfolding take_token
 token_shape token.ident h = grind (arith, by_read, first_tree, false≢true)
 token_shape token.any_ident h = grind (arith, by_read, first_tree, false≢true)

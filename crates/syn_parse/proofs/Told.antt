@@ -43,7 +43,7 @@ use Rattle.syn_parse.specs.Lookahead.{LookaheadView, at_look, list_words, look_m
 use Rattle.syn_parse.specs.Lookahead.{look_missing, missing_names, names_message}
 use Rattle.syn_parse.specs.Takes.{Outcome, SaysAt, Takes, TakesAs, missing_next, or_end, take_by}
 use Rattle.syn_parse.specs.Tokens.{ident_in, lifetime_in, literal_in, punct_position, sign_missing}
-use Rattle.syn_parse.specs.Tokens.{sign_position, Kind, any_ident, any_lifetime, ident, keyword}
+use Rattle.syn_parse.specs.Tokens.{sign_position, TokenKind, any_ident, any_lifetime, ident, keyword}
 use Rattle.syn_parse.specs.Tokens.{lifetime, literal, own, punct, punct_in, punctuation, take_token}
 use Rattle.syn_parse.proofs.Failing.{says_memory}
 use Rattle.syn_parse.proofs.Positions.{InScope, scope_kept, start_told, whole_told}
@@ -186,7 +186,7 @@ sign_told : (text : List ℕ) (s : State) (f : Fault) → Refuses (punctuation_m
 sign_told text s f h i = grind (arith, sign_at)
 
 -- how a token is parsed
-abbrev pub TokenParses : {A : Type 0} → Kind A → Call A
+abbrev pub TokenParses : {A : Type 0} → TokenKind A → Call A
 TokenParses ident = IdentParses
 TokenParses any_ident = AnyIdentParses
 TokenParses lifetime = LifetimeParses
@@ -198,7 +198,7 @@ TokenParses (keyword k) = KeywordParses k
 TokenParses (punctuation k n) = PunctuationTypeParses k n
 
 -- a parse of a token takes it
-pub token_told : {A : Type 0} (token : Kind A) (s : State) (r : Result A Fault) (t : State)
+pub token_told : {A : Type 0} (token : TokenKind A) (s : State) (r : Result A Fault) (t : State)
     → TokenParses token s r t → Takes (take_token token) s r t
 unfolding take_token
 token_told ident s r t h =

@@ -16,7 +16,7 @@ use Rattle.syn_parse.specs.TreesAhead.{Ahead}
 use Rattle.syn_parse.specs.Takings.{Lessens, Lightens, Lowers}
 use Rattle.syn_parse.specs.Takes.{Taking, ◌>>=◌, gives, refuses, refuses_at, take_by, take_group}
 use Rattle.syn_parse.specs.Takes.{where_ahead}
-use Rattle.syn_parse.specs.Tokens.{Kind, any_ident, any_lifetime, ident, keyword, lifetime, literal}
+use Rattle.syn_parse.specs.Tokens.{TokenKind, any_ident, any_lifetime, ident, keyword, lifetime, literal}
 use Rattle.syn_parse.specs.Tokens.{own, punct, punctuation, take_token}
 
 -- a parser that takes something adds nothing to what is ahead
@@ -113,7 +113,7 @@ pub by-lowers : {T : Type 0} (read : Reading) (means : List Tree → T) (lack : 
 by-lowers {T} read means lack h = grind arith
 
 -- a parse of a token takes something
-pub lowers_token : {A : Type 0} (t : Kind A) → Lowers (take_token t)
+pub lowers_token : {A : Type 0} (t : TokenKind A) → Lowers (take_token t)
 unfolding take_token
 lowers_token ident = by-lowers _ _ _ (if-shorter _)
 lowers_token any_ident = by-lowers _ _ _ (if-shorter _)
@@ -126,7 +126,7 @@ lowers_token (keyword k) = by-lowers _ _ _ (word-shorter _)
 lowers_token (punctuation k n) = by-lowers _ _ _ (puncts-shorter _)
 
 -- a parse of a token adds nothing to what is ahead
-pub lightens_token : {A : Type 0} (t : Kind A) → Lightens (take_token t)
+pub lightens_token : {A : Type 0} (t : TokenKind A) → Lightens (take_token t)
 lightens_token t = lightens_lower (take_token t) (lowers_token t)
 
 -- the first group is the first tree, and has the delimiter that is asked for

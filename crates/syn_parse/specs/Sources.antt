@@ -1,17 +1,16 @@
 -- Parsers over the texts of sources, whose end is behind the last token.
-use Rattle.std.specs.Prelude.{ℕ, List, Result, Ok, Err, ◌⊎◌}
+use Rattle.std.specs.Prelude.{ℕ, List, Result, Ok, Err}
 use Rattle.tok_buffer.specs.Spans.{last_span}
 use Rattle.tok_core.specs.Forest.{Forest}
 use Rattle.tok_core.specs.Lexical.Outcome.{FollowsSource}
 use Rattle.tok_core.specs.Lexical.Reading as grammar
-use Rattle.tok_core.specs.declared.lexer.error.LexError.{LexError}
 use Rattle.tok_core.specs.declared.lexer.error.LexFault.{LexFault}
 use Rattle.tok_leaves.specs.Spans.{call_site, source}
 use Rattle.tok_leaves.specs.declared.span.Origin.TheVariants.{CallSite, Source}
 use Rattle.tok_leaves.specs.declared.span.Span.{Span}
 use Rattle.tok_lexical.specs.declared.edition.Edition.{Edition}
 use Rattle.tok_lexical.specs.declared.rule.Mode.TheVariants.{Plain}
-use Rattle.syn_parse.specs.Parsers.{FailsExplained, FailsToLex, OnMemory, ParsesWhole, whole_stream}
+use Rattle.syn_parse.specs.Parsers.{FailsExplained, FailsToLex, ParsesTextTo, ParsesWhole, whole_stream}
 use Rattle.syn_parse.specs.Reads.{Call}
 use Rattle.syn_parse.specs.State.{State}
 use Rattle.syn_parse.specs.Takings.{KeepsTextTo, KeepsWhole, Takings}
@@ -35,15 +34,10 @@ abbrev pub OnTextOf : ℕ → (State → Type 0) → List ℕ → Type 0
 OnTextOf number holds text =
     (f : Forest) → grammar.ReadsForest Plain number text f → holds (source_stream number f)
 
--- The text of a source reads as a forest, which is parsed; or the grammar rejects it, and its error
--- is explained; or an allocation fails.
+-- the text of a source is parsed up to the end of its tokens, or the lexer's error is explained
 abbrev pub ParsesTextOf : {T : Type 0} → ℕ → Call T → List ℕ → Result T Fault → Type 0
-ParsesTextOf number parses text result =
-    ((f : Forest) × grammar.ReadsForest Plain number text f
-    × ParsesWhole parses (source_stream number f) result)
-    ⊎ (((e : LexError) × grammar.IsRejected Plain number text e
-    × FailsExplained text e result)
-    ⊎ OnMemory result)
+ParsesTextOf number parses text =
+    ParsesTextTo number (end_of_tokens number) (FailsExplained text) parses text
 
 -- the text of a source keeps what is stated up to the end of its tokens
 abbrev pub KeepsTextOf : {T : Type 0} → ℕ → Takings T → List ℕ → Result T Fault → Type 0

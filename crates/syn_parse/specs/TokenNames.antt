@@ -3,13 +3,13 @@ use Rattle.std.specs.Prelude.{Bool}
 use Rattle.tok_types.specs.Sees.{keyword_first, punctuation_first}
 use Rattle.syn_parse.specs.Owned.{sees_own}
 use Rattle.syn_parse.specs.Takes.{Taking}
-use Rattle.syn_parse.specs.Tokens.{Kind, any_ident, any_lifetime, ident, keyword, lifetime, literal}
+use Rattle.syn_parse.specs.Tokens.{TokenKind, any_ident, any_lifetime, ident, keyword, lifetime, literal}
 use Rattle.syn_parse.specs.Tokens.{own, punct, punctuation, sees_any_ident, sees_ident}
 use Rattle.syn_parse.specs.Tokens.{sees_lifetime, sees_literal, sees_punct, take_token}
 use Rattle.syn_parse.specs.TreesAhead.{Ahead}
 
 -- the names of the keywords and the punctuation: those of their types in `token`
-pub data Name : (A : Type 0) → Kind A → Type 1 where
+pub data Name : (A : Type 0) → TokenKind A → Type 1 where
   Abstract : Name _ (keyword 0)
   As : Name _ (keyword 1)
   Async : Name _ (keyword 2)
@@ -112,15 +112,15 @@ pub data Name : (A : Type 0) → Kind A → Type 1 where
   Tilde : Name _ (punctuation 45 1)
 
 -- the type of the token with this name
-abbrev pub Token : {A : Type 0} {k : Kind A} → Name A k → Type 0
+abbrev pub Token : {A : Type 0} {k : TokenKind A} → Name A k → Type 0
 Token {A} name = A
 
 -- a parse of the token with this name
-abbrev pub take : {A : Type 0} {k : Kind A} → Name A k → Taking A
+abbrev pub take : {A : Type 0} {k : TokenKind A} → Name A k → Taking A
 take {k = k} name = take_token k
 
 -- a peek of a token of this kind; a lifetime may have any name
-abbrev pub sees_token : {A : Type 0} → Kind A → Ahead → Bool
+abbrev pub sees_token : {A : Type 0} → TokenKind A → Ahead → Bool
 sees_token ident a = sees_ident a
 sees_token any_ident a = sees_any_ident a
 sees_token lifetime a = sees_lifetime a
@@ -132,5 +132,5 @@ sees_token (keyword k) a = keyword_first k a.trees
 sees_token (punctuation k n) a = punctuation_first k n a.trees
 
 -- a peek of the token with this name
-abbrev pub sees : {A : Type 0} {k : Kind A} → Name A k → Ahead → Bool
+abbrev pub sees : {A : Type 0} {k : TokenKind A} → Name A k → Ahead → Bool
 sees {k = k} name = sees_token k

@@ -60,23 +60,23 @@ sign_missing text f =
     record { position = sign_position text f; words = expected (in_backquotes text) }
 
 -- the kinds of tokens, each with the type of its value
-pub data Kind : Type 0 → Type 1 where
+pub data TokenKind : Type 0 → Type 1 where
   -- an identifier that is no reserved word
-  ident : Kind Ident
+  ident : TokenKind Ident
   -- an identifier, which may be a reserved word
-  any_ident : Kind Ident
+  any_ident : TokenKind Ident
   -- a lifetime whose name is no reserved word, or is `static` or `_`
-  lifetime : Kind Lifetime
+  lifetime : TokenKind Lifetime
   -- a lifetime of any name
-  any_lifetime : Kind Lifetime
-  literal : Kind Literal
+  any_lifetime : TokenKind Lifetime
+  literal : TokenKind Literal
   -- a punct other than an apostrophe
-  punct : Kind Punct
+  punct : TokenKind Punct
   -- a word of one's own with this text, of which the span is the value
-  own : List ℕ → Kind Span
+  own : List ℕ → TokenKind Span
   -- the keyword and the punctuation with these numbers
-  keyword : (k : ℕ) → Kind (Keyword k)
-  punctuation : (k n : ℕ) → Kind (Punctuation k n)
+  keyword : (k : ℕ) → TokenKind (Keyword k)
+  punctuation : (k n : ℕ) → TokenKind (Punctuation k n)
 
 -- an identifier of a text
 abbrev pub take_word : {A : Type 0} → List ℕ → (List Tree → A) → Taking A
@@ -84,7 +84,7 @@ take_word text means =
     take_by (first_keyword text) means (missing_next (expected (in_backquotes text)))
 
 -- how a token of each kind is taken
-unfoldable pub take_token : {A : Type 0} → Kind A → Taking A
+unfoldable pub take_token : {A : Type 0} → TokenKind A → Taking A
 take_token ident =
     take_by (first_if (is_ident_of accept_as_ident)) ident_in
     (λ f. missing_next (ident_words (first_if is_ident f)) f)
