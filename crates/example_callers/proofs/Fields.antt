@@ -22,7 +22,7 @@ use Rattle.syn_parse.specs.Progress.{PunctuationTypeParses}
 use Rattle.syn_parse.specs.Reads.{TreesRead}
 use Rattle.syn_parse.specs.State.{State, moved}
 use Rattle.syn_parse.specs.ErrorWords.{punctuation_message}
-use Rattle.syn_parse.proofs.Reading.{reads-value, reads-refused, reads-memory}
+use Rattle.syn_parse.proofs.Reading.{reads-value, reads_refused, reads-memory}
 use Rattle.syn_parse.specs.TokenNames.{Colon, Token}
 use Rattle.example_callers.specs.declared.streams.Field.{Field}
 use Rattle.example_callers.specs.Fields.{FieldParses, IsField}
@@ -77,7 +77,7 @@ module _ (s : State) where
       (words : Message) (f : Fault) (t : State) → read_field s.place ≡ None →
       field_message s ≡ words → Refuses words f → FieldParses s (Err f) t
   is_refused words f t missing e r =
-      reads-refused IsField (field_message s) s (read_field s.place) f missing
+      reads_refused IsField (field_message s) s (read_field s.place) f missing
       (subst (λ x. Refuses x f) (sym e) r)
 
   is_memory : (f : Fault) (t : State) → IsMemory f → FieldParses s (Err f) t

@@ -1,5 +1,5 @@
 -- Whole streams, by what is taken of them.
-use Rattle.std.proofs.Common.{arith, ◌≡◌, ◌∙◌, sym, ap, subst, true, Option, Some, None, Ok}
+use Rattle.std.proofs.Common.{arith, ◌≡◌, ◌∙◌, sym, ap, true, Option, Some, None, Ok}
 use Rattle.std.proofs.Common.{Err, List}
 use Rattle.std.specs.Prelude.{IfSome, MatchOption, Result, is_some, option_map}
 use Rattle.std.specs.Option.{option_or}
@@ -65,10 +65,8 @@ module _ {T A : Type 0} (form : T → A) (take : Taking A) (f : Forest) (scope :
       → MatchOption o (result ≡ Ok v) (λ l. FailsWith (leftover_message l) result)
       → TakesAll form take f scope result
   value_takes_all v left result None h k m =
-      subst (TakesAll form take f scope) (sym m)
-      (k ∙ ap (found (form v))
-      (spent-in left.noted (leftover left.place) (erased_ahead left.place)
-      (leftover-trees left.place) h))
+      rw m (k ∙ ap (found (form v)) (spent-in left.noted (leftover left.place)
+      (erased_ahead left.place) (leftover-trees left.place) h))
   value_takes_all v left (Ok w) (Some l) h k m = absurd m
   value_takes_all v left (Err e) (Some l) h k m =
       left-refuses e (form v) (ahead left) (leftover_message l) m k (λ a.

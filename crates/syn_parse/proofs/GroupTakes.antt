@@ -1,6 +1,5 @@
 -- A group takes what is inside, and then what is after it.
-use Rattle.std.proofs.Common.{◌≡◌, ◌∙◌, sym, ap, subst, refl, arith, ◌<◌, ◌≤◌, Option, Some, None}
-use Rattle.std.proofs.Common.{Ok, Err}
+use Rattle.std.proofs.Common.{◌≡◌, ◌∙◌, sym, ap, refl, arith, ◌<◌, ◌≤◌, Option, Some, None, Ok, Err}
 use Rattle.std.specs.Option.{option_or}
 use Rattle.std.specs.Prelude.{Result, is_some, length, option_map}
 use Rattle.tok_lexical.specs.declared.delimiter.Delimiter.{Delimiter}
@@ -27,13 +26,13 @@ use Rattle.syn_parse.specs.Reads.{Call}
 use Rattle.syn_parse.specs.State.{State, after_group, closed, content_of}
 use Rattle.syn_parse.specs.declared.fault.Fault.{Fault}
 use Rattle.syn_parse.specs.declared.fault.Fault.TheVariants.{Refused, Memory}
-use Rattle.syn_parse.specs.TreesAhead.{IsFilled, after_content, ahead, scope_of, unread_after}
+use Rattle.syn_parse.specs.TreesAhead.{IsFilled, after_content, ahead, scope_of}
 use Rattle.syn_parse.specs.Lighter.{group_is_first, group_weighs}
 use Rattle.syn_parse.specs.Grouped.{grouped}
 use Rattle.syn_parse.specs.Takings.{Keeps, Takings, stated, untold}
 use Rattle.syn_parse.specs.Positions.{Missing, missing_inside, scope_trees}
-use Rattle.syn_parse.specs.Takes.{EntersAhead, IsMissing, MemoryOr, Outcome, Says, SaysFound}
-use Rattle.syn_parse.specs.Takes.{TakeWithin, TakesAs, Taking, after_inside, found, inside_first}
+use Rattle.syn_parse.specs.Takes.{EntersAhead, IsMissing, MemoryOr, Outcome, Says, SaysFound, Stays}
+use Rattle.syn_parse.specs.Takes.{TakeWithin, TakesAs, Taking, after_inside, inside_first}
 use Rattle.syn_parse.specs.Takes.{take_group}
 use Rattle.syn_parse.proofs.Scopes.{one_scope}
 use Rattle.syn_parse.proofs.Failing.{says_memory}
@@ -57,14 +56,12 @@ unread-or : (n m l : Option Leftover)
     ≡ option_or (left_span n) (option_or (left_span m) (left_span l))
 unread-or n m l = grind arith
 
-after-closed : (left s : State) (e : Entered)
-    → ahead (closed left (after_group e s))
-    ≡ record { trees = erased_ahead e.after; unread = unread_after (ahead s) (ahead left) }
-after-closed left s e =
-    ap (λ b. record { trees = erased_ahead e.after; unread = b })
-    (unread-or s.noted left.noted (leftover left.place)
-    ∙ ap (λ b. option_or (left_span s.noted) (option_or (left_span left.noted) b))
-    (ahead_tells left.place).leftovers)
+-- a content is closed
+pub closed_ahead : (content s : State)
+    → ahead (closed content s) ≡ after_content (ahead content) (ahead s)
+closed_ahead content s =
+    let left = (ahead_tells content.place).leftovers in
+    rw (unread-or s.noted content.noted (leftover content.place), left) refl
 
 span-is : (d : DelimSpan) (x : Span) → d.join ≡ x → d ≡ record { join = x }
 span-is d x e = ap (λ y. record { join = y }) e
@@ -91,13 +88,30 @@ content-remains : (d : Delimiter) (p : Place) (e : Entered) → enter d p ≡ So
     → remaining e.content < remaining p
 content-remains d p e h = (entries_go_on.groups d).inwards p e h
 
+-- a group that is entered is the first one ahead
+first-entered : (d : Delimiter) → IsVisibleDelimiter d → (p : Place) (x : Option Entered)
+    → enter d p ≡ x → first_group d (erased_ahead p) ≡ option_map entered_ahead x
+first-entered d v p x h = sym ((ahead_tells p).enters d v) ∙ ap (option_map entered_ahead) h
+
 -- a group's content weighs less than what is ahead before it
 pub content-lighter : (d : Delimiter) → IsVisibleDelimiter d → (p : Place) (e : Entered)
     → enter d p ≡ Some e → weight (erased_ahead e.content) < weight (erased_ahead p)
 content-lighter d v p e h =
-    let first = sym ((ahead_tells p).enters d v) ∙ ap (option_map entered_ahead) h in
-    let w = group_weighs d (erased_ahead p) (entered_ahead e) first in
+    let w = group_weighs d (erased_ahead p) (entered_ahead e) (first-entered d v p (Some e) h) in
     omega (arith, w)
+
+-- after a group is a place of its stream
+after-stays : (d : Delimiter) → IsVisibleDelimiter d → (s t : State) (e : Entered)
+    → enter d s.place ≡ Some e
+    → t.place ≡ e.after → t.scope_span ≡ s.scope_span → Stays s t
+after-stays d v s t e h p q =
+    rw (p, q) (
+      λ i. (both-filled d v s.place e h i).1,
+      after-scope d s.place e h,
+      after-remains d s.place e h,
+      after_trees d v s.place e h,
+      refl,
+    )
 
 -- what an error says in a group it says outside of it
 module _ (d : Delimiter) (visible : IsVisibleDelimiter d) (s : State) (e : Entered)
@@ -126,9 +140,7 @@ module _ {T A : Type 0} (form : T → A) (inner : Taking A) (calls : Call T)
   is-first : (x : Option Entered) → enter d s.place ≡ x
       → take_group d inner (ahead s) ≡ inside_first d inner (ahead s) (option_map entered_ahead x)
   unfolding take_group
-  is-first x h =
-      ap (inside_first d inner (ahead s))
-      (sym ((ahead_tells s.place).enters d visible) ∙ ap (option_map entered_ahead) h)
+  is-first x h = ap (inside_first d inner (ahead s)) (first-entered d visible s.place x h)
 
   inside-missing : (e : EnteredWith Forest) (o : Outcome A) → IsMissing o
       → IsMissing (after_inside (ahead s) e o)
@@ -139,42 +151,26 @@ module _ {T A : Type 0} (form : T → A) (inner : Taking A) (calls : Call T)
       → SpanWith e.span returned r → t ≡ closed left (after_group e s)
       → TakesAs both (take_group d inner) s r t
   ran e (Ok v) left (Ok found_) h i w k =
+      let entered = is-first (Some e) h in
+      let inside = ap (after_inside (ahead s) (entered_ahead e)) i.0 in
+      let after = closed_ahead left (after_group e s) in
       let span = span-is found_.0 e.span w.0 in (
-        is-first (Some e) h ∙ ap (after_inside (ahead s) (entered_ahead e)) i.0
-            ∙ ap (λ y. found (record { join = e.span }, form v) y)
-            (sym (ap ahead k ∙ after-closed left s e))
-            ∙ ap (λ y. found (y, form v) (ahead t)) (sym span)
-            ∙ ap (λ y. found (found_.0, form y) (ahead t)) (sym w.1),
-        (
-          λ j. subst (λ u. IsFilled u.place) (sym k) (both-filled d visible s.place e h j).1,
-          ap (λ u. scope_of u.place) k ∙ after-scope d s.place e h,
-          subst (λ u. remaining u.place ≤ remaining s.place) (sym k) (after-remains d s.place e h),
-          ap (λ u. scope_trees u.place) k ∙ after_trees d visible s.place e h,
-          ap (λ u. u.scope_span) k,
-        ),
+        cc (entered, inside, after, span, w.1, k),
+        after-stays d visible s t e h (ap (λ u. u.place) k) (ap (λ u. u.scope_span) k),
       )
   ran e (Ok v) left (Err g) h i w k = absurd w
   ran e (Err f) left (Ok found_) h i w k = absurd w
   ran e (Err f) left (Err g) h i w k =
-      subst (λ x. TakesAs both (take_group d inner) s (Err x) t) (sym w) (
-        memory-or f _ _
-            (λ n. subst IsMissing (sym (is-first (Some e) h))
-            (inside-missing (entered_ahead e) _ n)) i.0,
-        λ j.
-            subst (λ o. SaysFound (scope_trees s.place) s.scope_span o f)
-            (sym (is-first (Some e) h))
-            (inside_says d visible s e h j _ f (i.1 (both-filled d visible s.place e h j).0)),
+      rw (w, is-first (Some e) h) (
+        memory-or f _ _ (λ n. inside-missing (entered_ahead e) _ n) i.0,
+        λ j. inside_says d visible s e h j _ f (i.1 (both-filled d visible s.place e h j).0),
       )
 
   no_group_refuses : (f : Fault) → enter d s.place ≡ None
       → Refuses (refused_at s (delimiter_words d)) f
       → TakesAs both (take_group d inner) s (Err f) t
-  no_group_refuses (Refused e) h r = (
-    (subst IsMissing (sym (is-first None h)) tt, ap length r),
-    λ i.
-        subst (λ o. SaysFound (scope_trees s.place) s.scope_span o (Refused e))
-        (sym (is-first None h)) (here_told (delimiter_words d) s (Refused e) r i),
-  )
+  no_group_refuses (Refused e) h r =
+      rw (is-first None h) ((tt, ap length r), here_told (delimiter_words d) s (Refused e) r)
   no_group_refuses (Memory e) h r = grind (arith, says_memory)
 
   within : (x : Option Entered) (r : Result (DelimSpan × T) Fault) → enter d s.place ≡ x
@@ -212,74 +208,28 @@ group_keeps (stated alone form take x) calls d v s t r each w =
     under alone _ _ (λ i. group_told form take calls d v s t
     (λ x y z l h. given alone _ _ (each x y z h) (given_on alone _ _ l.1 i)) r w)
 
--- a content is closed
-pub closed_ahead : (content s : State)
-    → ahead (closed content s) ≡ after_content (ahead content) (ahead s)
-closed_ahead content s =
-    ap (λ b. record { trees = erased_ahead s.place; unread = b })
-    (unread-or s.noted content.noted (leftover content.place)
-    ∙ ap (λ b. option_or (left_span s.noted) (option_or (left_span content.noted) b))
-    (ahead_tells content.place).leftovers)
-
 -- a group is entered
 module _ {T : Type 0} (span_of : T → DelimSpan) (content : T → State) (d : Delimiter)
     (visible : IsVisibleDelimiter d) (s t : State) where
-  first : (e : Entered) → enter d s.place ≡ Some e
-      → first_group d (erased_ahead s.place) ≡ Some (entered_ahead e)
-  first e h = sym ((ahead_tells s.place).enters d visible) ∙ ap (option_map entered_ahead) h
-
   value_enters : (e : Entered) (v : T) → enter d s.place ≡ Some e → whole_span (span_of v) ≡ e.span
       → content v ≡ content_of e → t ≡ after_group e s → EntersAhead span_of content d s (Ok v) t
-  value_enters e v h i j k = (
-    first e h
-        ∙ ap (λ x. Some (record {
-          delimiter = x;
-          span = e.span;
-          content = erased_ahead e.content;
-          after = erased_ahead e.after;
-        })) (group_is_first d (erased_ahead s.place) (entered_ahead e) (first e h)).1
-        ∙ ap (λ x. Some (record {
-          delimiter = d;
-          span = x;
-          content = erased_ahead e.content;
-          after = erased_ahead e.after;
-        })) (sym i)
-        ∙ ap (λ (u : State). Some (record {
-          delimiter = d;
-          span = (span_of v).join;
-          content = erased_ahead u.place;
-          after = erased_ahead e.after;
-        })) (sym j)
-        ∙ ap (λ (u : State). Some (record {
-          delimiter = d;
-          span = (span_of v).join;
-          content = erased_ahead (content v).place;
-          after = erased_ahead u.place;
-        })) (sym k),
-    ap (λ u. (ahead u).unread) j,
-    ap (λ u. (ahead u).unread) k,
-    λ f. subst (λ u. IsFilled u.place) (sym j) (both-filled d visible s.place e h f).0,
-    λ f m g k.
-        subst (λ x. Says (scope_trees s.place) s.scope_span (missing_inside (closing_span x) m) g)
-        (sym i)
-        (said_outside d visible s e h f m g
-        (subst (λ (u : State). Says (scope_trees u.place) u.scope_span m g) j k)),
-    subst (λ u. remaining u.place < remaining s.place) (sym j) (content-remains d s.place e h),
-    (
-      λ f. subst (λ u. IsFilled u.place) (sym k) (both-filled d visible s.place e h f).1,
-      ap (λ u. scope_of u.place) k ∙ after-scope d s.place e h,
-      subst (λ u. remaining u.place ≤ remaining s.place) (sym k) (after-remains d s.place e h),
-      ap (λ u. scope_trees u.place) k ∙ after_trees d visible s.place e h,
-      ap (λ u. u.scope_span) k,
-    ),
-  )
+  value_enters e v h i j k =
+      let first = first-entered d visible s.place (Some e) h in
+      let same = (group_is_first d (erased_ahead s.place) (entered_ahead e) first).1 in
+      rw (k, j, i) (
+        rw same at first,
+        refl,
+        refl,
+        λ f. (both-filled d visible s.place e h f).0,
+        λ f m g. said_outside d visible s e h f m g,
+        content-remains d s.place e h,
+        after-stays d visible s (after_group e s) e h refl refl,
+      )
 
   not-entered : (f : Fault) → enter d s.place ≡ None → Refuses (refused_at s (delimiter_words d)) f
       → EntersAhead span_of content d s (Err f) t
-  not-entered (Refused e) h r = (
-    (sym ((ahead_tells s.place).enters d visible) ∙ ap (option_map entered_ahead) h, ap length r),
-    here_told (delimiter_words d) s (Refused e) r,
-  )
+  not-entered (Refused e) h r =
+      ((first-entered d visible s.place None h, ap length r), here_told _ s (Refused e) r)
   not-entered (Memory e) h r = (tt, λ i. tt)
 
   enters : (x : Option Entered) (r : Result T Fault) → enter d s.place ≡ x
@@ -297,4 +247,11 @@ module _ {T : Type 0} (span_of : T → DelimSpan) (content : T → State) (d : D
 -- a call of a function that is passed
 pub at-states : {T : Type 0} (calls : Call T) (s t u v : State) (r : Result T Fault) → s ≡ u → t ≡ v
     → calls s r t → calls u r v
-at-states calls s t u v r a b h = subst (λ x. calls x r v) a (subst (λ x. calls s r x) b h)
+at-states calls s t u v r a b h = rw (a, b) at h
+
+-- what is known of a group that has been entered
+pub group_entered : {T : Type 0} (Parts : T → Entered
+    → Type 0) (x : Option Entered) (words : Message) (s : State) (v : T) (t : State)
+    → Enters Parts x words s (Ok v) t
+    → (e : Entered) × (x ≡ Some e) × Parts v e × (t ≡ after_group e s)
+group_entered Parts x words s v t h = grind arith

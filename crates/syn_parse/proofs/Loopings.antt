@@ -1,5 +1,5 @@
 -- A loop's calls, turn by turn.
-use Rattle.std.proofs.Common.{◌≡◌, ◌≤◌, ◌-◌, sym, ap, subst, arith, ℕ, ◌+◌, List, [], ◌∷◌}
+use Rattle.std.proofs.Common.{◌≡◌, ◌≤◌, ◌-◌, ap, arith, ℕ, ◌+◌, List, [], ◌∷◌}
 use Rattle.std.proofs.Common.{◌++◌, Bool, true, false, Ok, Err, Option, length}
 use Rattle.std.proofs.lemmas.List.{length-append}
 use Rattle.std.specs.Global.{Vec}
@@ -34,7 +34,7 @@ pub turned-none : {T : Type 0} (goes_on ends : Place → Type 0) (parses : Call 
     (vs : List T) → p ≡ s.place → weight (erased_ahead p) ≤ n → n ≡ remaining p - 1 → vs ≡ []
     → Turned goes_on ends parses test takes s vs s n
 turned-none goes_on ends parses test takes s p n vs e h k none =
-    subst (λ xs. Turned goes_on ends parses test takes s xs s n) (sym none) (record {
+    rw none (record {
       taken = turns-start test takes s n (omega (arith, h, ap (λ q. weight (erased_ahead q)) e));
       parsed = none_yet;
       count = omega (arith, k, ap remaining e);
@@ -74,21 +74,20 @@ module _ {T : Type 0} {goes_on ends : Place → Type 0} {parses : Call T}
       → Returns goes_on ends parses test takes s r u
   unfolding Does
   loop-refused f u w j k r e =
-      subst (λ x. Returns goes_on ends parses test takes s x u) (sym e)
-      (refused vs t f u h.parsed i j, turns-failed test takes s t u vs n f h.taken w k)
+      rw e (refused vs t f u h.parsed i j, turns-failed test takes s t u vs n f h.taken w k)
 
   pub loop-lost : (v : T) (u : State) (f : Fault) → Does parses t (Ok v) u → IsMemory f
       → (r : Result (Vec T) Fault) → r ≡ Err f → Does (Loops goes_on ends parses) s r u
   unfolding Does
   loop-lost v u f j k r e =
-      subst (λ x. Loops goes_on ends parses s x u) (sym e) (lost vs v f u (more v u j) k)
+      rw e (lost vs v f u (more v u j) k)
 
   pub loop-stuck : (v : T) (u : State) (f : Fault) → Does parses t (Ok v) u
       → Keeps takes t (Ok v) u → n ≡ 0 → Refuses (nothing_taken u) f
       → (r : Result (Vec T) Fault) → r ≡ Err f → Returns goes_on ends parses test takes s r u
   unfolding Does
   loop-stuck v u f j w z k r e =
-      subst (λ x. Returns goes_on ends parses test takes s x u) (sym e) (
+      rw e (
         stuck (vs ++ v ∷ []) f u (more v u j)
             (omega (arith, length-append vs (v ∷ []), h.count, z)) k,
         turns-stuck test takes s t u vs n v f h.taken w z,

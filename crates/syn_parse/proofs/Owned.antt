@@ -1,6 +1,6 @@
 -- Keywords of one's own: what a peek sees, and whether a text can be written.
-use Rattle.std.proofs.Common.{◌≡◌, ◌∙◌, sym, ap, ℕ, List, Bool, Err, arith, subst}
-use Rattle.std.proofs.Common.{◌++◌, ◌<◌, ◌-◌, codes, drop, get_or, length, take}
+use Rattle.std.proofs.Common.{◌≡◌, ◌∙◌, ap, ℕ, List, Bool, Err, arith}
+use Rattle.std.proofs.Common.{◌++◌, ◌-◌, codes, drop, length, take}
 use Rattle.std.proofs.Math.Seq.{take-append_seam}
 use Rattle.std.proofs.lemmas.List.{length-append}
 use Rattle.std.proofs.lemmas.Str.{IsCharBoundary-after_ascii, IsCharBoundary-at_seam}
@@ -43,8 +43,7 @@ module _ (text : List ℕ) (span : Span) (made : Result Ident MakeFault)
 module _ (quoted text : List ℕ) (is : quoted ≡ in_backquotes text) where
   pub after_quote : IsUtf8 quoted → IsCharBoundary quoted 1
   after_quote u =
-      IsCharBoundary-after_ascii quoted 0 u (subst (λ q. 0 < length q) (sym is) (omega arith))
-      (subst (λ q. get_or q 0 0 < 128) (sym is) (omega arith))
+      IsCharBoundary-after_ascii quoted 0 u (rw is (omega arith)) (rw is (omega arith))
 
   all_but_quote : length (text ++ codes "`") - 1 ≡ length text
   all_but_quote = ap (λ n. n - 1) (length-append text (codes "`")) ∙ omega arith

@@ -1,10 +1,9 @@
 -- The span of a stream is one of the position of what is ahead of it.
-use Rattle.std.proofs.Common.{arith, ◌≡◌, ◌∙◌, sym, subst, refl, ◌&&◌, true, false, cond, List, []}
-use Rattle.std.proofs.Common.{◌∷◌, Some, None}
+use Rattle.std.proofs.Common.{arith, ◌≡◌, ◌∙◌, refl, ◌&&◌, true, false, cond, List, [], ◌∷◌, Some}
+use Rattle.std.proofs.Common.{None}
 use Rattle.std.proofs.lemmas.Bool.{and_parts, false≢true}
 use Rattle.std.specs.Prelude.{⊤, IfSome}
 use Rattle.tok_lexical.specs.declared.delimiter.Delimiter.{Delimiter}
-use Rattle.tok_lexical.specs.declared.delimiter.Delimiter.TheVariants as delimiter
 use Rattle.tok_leaves.specs.declared.span.Span.{Span}
 use Rattle.tok_core.specs.Clear.{is_invisible_group}
 use Rattle.tok_core.specs.Erase.{erase}
@@ -21,7 +20,6 @@ use Rattle.tok_buffer.specs.Place.{is_at_end, pass}
 use Rattle.tok_buffer.specs.Reads.{any_tree}
 use Rattle.tok_buffer.specs.Spans.{current_span}
 use Rattle.tok_buffer.specs.Trees.{PassesTrees, further, read_visible}
-use Rattle.tok_buffer.specs.Trees as trees
 use Rattle.tok_buffer.specs.Reached.{Reached, begin, down, past, into, nowhere}
 use Rattle.tok_buffer.specs.View.{IsVisibleDelimiter, erased_ahead, erased_in}
 use Rattle.tok_buffer.proofs.View.Ends.{IsFilledPlace, IsSettled}
@@ -29,10 +27,13 @@ use Rattle.tok_buffer.proofs.View.Keeps.{kept-descend, of-front}
 use Rattle.tok_buffer.proofs.View.Moves.{IsMoved, Leads, LeadsTo, leads, leads-take, moved-pass}
 use Rattle.tok_buffer.proofs.View.Readings.{Reading}
 use Rattle.tok_buffer.proofs.View.Places.{reached_stands}
-use Rattle.syn_parse.specs.Positions.{IsAt, IsNext, Position, Stands, among, at_span, at_trees}
-use Rattle.syn_parse.specs.Positions.{here, later, only_span, over_tree, scope_trees, seen_outside}
-use Rattle.syn_parse.specs.Positions.{tree_start, trees_in}
+use Rattle.syn_parse.specs.Positions.{IsAt, IsNext, Position, Stands, among, at_trees, here, later}
+use Rattle.syn_parse.specs.Positions.{only_span, over_tree, scope_trees, seen_outside, tree_start}
+use Rattle.syn_parse.specs.Positions.{trees_in}
 use Rattle.syn_parse.specs.TreesAhead.{IsFilled}
+use Rattle.syn_parse.specs.Laws.{ErrorsHaveOneSpan}
+use Rattle.tok_lexical.specs.declared.delimiter.Delimiter.TheVariants as delimiter
+use Rattle.tok_buffer.specs.Trees as trees
 
 -- each frame but the last one is of an invisible group
 abbrev Nested : Frame → List Frame → Type 0
@@ -67,7 +68,7 @@ reached-nested b _ begin = tt
 reached-nested b _ (down p r) = kept-descend IsNested moved-nested.kept p (reached-nested b p r)
 reached-nested b _ (past p r) = moved-pass IsNested moved-nested p (reached-nested b p r)
 reached-nested b _ (into d p e v i r) =
-    subst (λ x. IfSome x (λ y. IsNested y.content)) i (nested-content d p v)
+    rw i at (nested-content d p v)
 reached-nested b _ nowhere = tt
 
 into-trees : (o : Enclosing) (p inside : Forest) (span : Span) (f : Forest) (ls : List Frame)
@@ -100,8 +101,7 @@ pub passes_kept : (p q : Place) → PassesTrees p q → scope_trees q ≡ scope_
 passes_kept p q trees.here = refl
 passes_kept p z (further q r ts h e) =
     let f = scope_trees p in
-    subst (LeadsTo (InScope f)) e
-    (leads-take (InScope f) (InScope f) (leads-trees f) any_tree q (passes_kept p q h))
+    rw e at (leads-take (InScope f) (InScope f) (leads-trees f) any_tree q (passes_kept p q h))
 
 descended-trees : (p : Place) → scope_trees (descend p) ≡ scope_trees p
 descended-trees p = (leads-trees (scope_trees p)).down p refl
@@ -181,15 +181,13 @@ covers-front p scope = grind arith
 pub start_told : (p : Place) (scope : Span) → IsFilled p
     → IsAt (scope_trees p) scope (at_trees (erased_ahead p)) (stream_span p scope)
 start_told p scope i =
-    subst (IsAt (scope_trees p) scope (at_trees (erased_ahead p))) (starts-front p scope)
-    (next-told tree_start p scope i)
+    rw (← starts-front p scope) (next-told tree_start p scope i)
 
 pub whole_told : (p : Place) (scope : Span) → IsFilled p
     → IsAt (scope_trees p) scope (over_tree (erased_ahead p))
     (cond (is_at_end p) scope (current_span p))
 whole_told p scope i =
-    subst (IsAt (scope_trees p) scope (over_tree (erased_ahead p))) (covers-front p scope)
-    (next-told tree_span p scope i)
+    rw (← covers-front p scope) (next-told tree_span p scope i)
 
 entered-visible : (d : Delimiter) → IsVisibleDelimiter d → (p : Place) (e : Entered)
     → enter d p ≡ Some e → IsVisibleDelimiter e.delimiter
@@ -207,10 +205,8 @@ module _ (d : Delimiter) (visible : IsVisibleDelimiter d) (p : Place) (e : Enter
 
   pub after_trees : scope_trees e.after ≡ scope_trees p
   after_trees =
-      subst (λ x. IfSome x (λ y. scope_trees y.after ≡ scope_trees (descend p))) is
-      (of-front (λ y. scope_trees y.after ≡ scope_trees (descend p)) d p visible
-      (after-any (descend p)))
-      ∙ descended-trees p
+      (rw is at (of-front (λ y. scope_trees y.after ≡ scope_trees (descend p)) d p visible
+      (after-any (descend p)))) ∙ descended-trees p
 
   module _ (part : Tree → Span) (span : Span) (ahead : Forest) where
     in-visible : (x : Delimiter) → IsVisibleDelimiter x → (inside f after : Forest) (s : Span)
@@ -228,26 +224,17 @@ module _ (d : Delimiter) (visible : IsVisibleDelimiter d) (p : Place) (e : Enter
     before-content : IsFilled p → Stands part span ahead (scope_trees e.content) no_trees
         → Stands part span ahead (scope_trees p) no_trees
     before-content i h =
-        subst (λ f. Stands part span ahead f no_trees) (descended-trees p)
-        (subst (λ x. IfSome x (λ y. IsVisibleDelimiter y.delimiter
-        → Stands part span ahead (scope_trees y.content) no_trees
-        → Stands part span ahead (scope_trees (descend p)) no_trees)) is
-        (of-front (λ y. IsVisibleDelimiter y.delimiter
+        let nested = reached-nested i.buffer (descend p) (down p i.reached) in
+        let inside = of-front (λ y. IsVisibleDelimiter y.delimiter
         → Stands part span ahead (scope_trees y.content) no_trees
         → Stands part span ahead (scope_trees (descend p)) no_trees) d p visible
-        (content-any (descend p) (reached-nested i.buffer (descend p) (down p i.reached))))
-        (entered-visible d visible p e is) h)
+        (content-any (descend p) nested) in
+        rw (← descended-trees p) ((rw is at inside) (entered-visible d visible p e is) h)
 
   pub content_at : IsFilled p → (close scope : Span) (x : Position) (span : Span)
       → IsAt (scope_trees e.content) close x span
       → IsAt (scope_trees p) scope (seen_outside close x) span
-  content_at i close scope (at_trees no_trees) span h = h
-  content_at i close scope (at_trees (tree t f)) span h =
-      before-content tree_start span (tree t f) i h
-  content_at i close scope (over_tree no_trees) span h = h
-  content_at i close scope (over_tree (tree t f)) span h =
-      before-content tree_span span (tree t f) i h
-  content_at i close scope (at_span given) span h = h
+  content_at i close scope v1 span h = grind (arith, before-content)
 
 -- In a forest without invisible groups a position has one span.
 abbrev StartsVisible : Forest → Type 0
@@ -268,8 +255,7 @@ no-invisible : {A : Type 0} (inside f : Forest) (span : Span)
     → erase (tree (group delimiter.None inside span) f) ≡ tree (group delimiter.None inside span) f
     → A
 no-invisible inside f span e =
-    absurd (false≢true (sym (subst StartsVisible e
-    (starts-erased (tree (group delimiter.None inside span) f)))))
+    let k = rw e at (starts-erased (tree (group delimiter.None inside span) f)) in absurd (cc)
 
 same-rest : {t u : Tree} {f g : Forest} → tree t f ≡ tree u g → f ≡ g
 same-rest e = cc
@@ -301,8 +287,8 @@ module _ (part : Tree → Span) (span : Span) (t : Tree) (g : Forest) where
 
 pub one_span : (f : Forest) → erase f ≡ f → (scope : Span) (x : Position) (span : Span)
     → IsAt f scope x span → span ≡ only_span scope x
-one_span f e scope (at_trees no_trees) span h = h
-one_span f e scope (at_trees (tree t g)) span h = stands-once tree_start span t g f no_trees h e
-one_span f e scope (over_tree no_trees) span h = h
-one_span f e scope (over_tree (tree t g)) span h = stands-once tree_span span t g f no_trees h e
-one_span f e scope (at_span given) span h = h
+one_span f e scope v1 span h = grind (arith, stands-once)
+
+-- where no invisible group is, an error says what is missing at one span
+pub said_once : ErrorsHaveOneSpan
+said_once f e k m i h = grind (arith, one_span)

@@ -1,5 +1,5 @@
 -- Values that follow one another, turn by turn.
-use Rattle.std.proofs.Common.{◌≡◌, ◌∙◌, sym, ap, subst, refl, arith, ℕ, ◌+◌, ◌≤◌}
+use Rattle.std.proofs.Common.{◌≡◌, arith, ℕ, ◌+◌, ◌≤◌}
 use Rattle.std.proofs.Common.{Bool, true, false, cond, List, [], ◌∷◌, ◌++◌, append_assoc}
 use Rattle.std.proofs.Common.{append-nil, map, Ok, Err, Option, Some}
 use Rattle.std.proofs.lemmas.List.{map-append}
@@ -12,7 +12,7 @@ use Rattle.syn_parse.proofs.Failing.{fails_on, stays_along, stays_here}
 use Rattle.syn_parse.proofs.Premises.{given, given_on, premise, under}
 use Rattle.syn_parse.specs.Many.{many_again, many_of, take_many, vec_form, where_filled}
 use Rattle.syn_parse.specs.State.{State}
-use Rattle.syn_parse.specs.Takes.{Outcome, Stays, Taking, TakesAs, and_then, found, missing}
+use Rattle.syn_parse.specs.Takes.{Outcome, Stays, Taking, TakesAs, and_then, found}
 use Rattle.syn_parse.specs.Takings.{Keeps, Lowers, Takings, Under, lower, stated}
 use Rattle.syn_parse.specs.TreesAhead.{Ahead, IsFilled, ahead, is_spent}
 use Rattle.syn_parse.specs.declared.fault.Fault.{Fault}
@@ -37,19 +37,14 @@ module _ {A : Type 0} (test : Ahead → Bool) (take : Taking A) (less : Lowers t
 
   first-first : (vs : List A) (v : A) (o : Outcome (List A))
       → first_of vs (and_then o (λ ws d. found (v ∷ ws) d)) ≡ first_of (vs ++ v ∷ []) o
-  first-first vs v (missing m) = refl
-  first-first vs v (found ws d) = ap (λ us. found us d) (sym (append_assoc vs (v ∷ []) ws))
+  first-first vs v v1 = grind (arith, append_assoc)
 
   one-more : (a b c : Ahead) (vs : List A) (v : A) → SoFar a vs b → test b ≡ true
       → take b ≡ found v c → SoFar a (vs ++ v ∷ []) c
   one-more a b c vs v h e k = grind (arith, again, first-first)
 
   no-more : (a b : Ahead) (vs : List A) → SoFar a vs b → test b ≡ false → all a ≡ found vs b
-  no-more a b vs h e =
-      h
-      ∙ ap (first_of vs)
-      (again b ∙ ap (λ x. cond x (and_then (take b) then_more) (found [] b)) e)
-      ∙ ap (λ us. found us b) (append-nil vs)
+  no-more a b vs h e = grind (arith, again, append-nil)
 
   module _ {T : Type 0} (form : T → A) where
     -- values that have been taken from a stream, and how many turns are left for more of them
@@ -118,8 +113,8 @@ turns-more (Some test) (stated alone form take (lower less)) s t u vs n m v so e
     under alone _ _ (λ i.
     let now = given alone _ _ so i in
     let j = given_on alone _ _ now.stays.0 i in
-    subst (λ xs. Turns test take less form s xs u m) (sym h)
-    (turn test take less form s t u vs n m v now (given alone _ _ e j) (given alone _ _ w j) k))
+    rw h (turn test take less form s t u vs n m v now (given alone _ _ e j)
+    (given alone _ _ w j) k))
 turns-more test takes s t u vs n m v so e w k ws h = tt
 
 pub turns-ended : {T : Type 0} (test : Option (Ahead → Bool)) (takes : Takings T) (s t : State)

@@ -1,7 +1,6 @@
 -- The trees of a run, one after another.
-use Rattle.std.proofs.Common.{◌≡◌, ◌∙◌, sym, ap, subst, refl, arith, ◌<◌, ◌≤◌, List, [], ◌∷◌}
+use Rattle.std.proofs.Common.{◌≡◌, ◌∙◌, sym, ap, refl, arith, ◌<◌, ◌≤◌, List, [], ◌∷◌}
 use Rattle.std.proofs.Common.{Option, Some, None, Ok}
-use Rattle.std.specs.Prelude.{option_map}
 use Rattle.tok_core.specs.Erase.{erase}
 use Rattle.tok_core.specs.Forest.{Tree, Forest, no_trees, tree, concat}
 use Rattle.tok_core.proofs.Facts.{concat-none, joined_assoc}
@@ -17,17 +16,17 @@ use Rattle.tok_buffer.specs.Trees.{erased_read, erased_tree, read_visible}
 use Rattle.tok_buffer.specs.View.{erased_ahead}
 use Rattle.tok_buffer.proofs.Between.{between_next, between_same}
 use Rattle.tok_buffer.proofs.Followed.{tree_follows, tree_read}
-use Rattle.tok_buffer.proofs.Onwards.{GoesOn, keeps_scope, visible_goes}
+use Rattle.tok_buffer.proofs.Onwards.{keeps_scope, visible_goes}
 use Rattle.tok_buffer.proofs.ScopeEnds.{visible_erased, visible_tells}
 use Rattle.tok_buffer.proofs.View.Laws.{reached_leads_on}
-use Rattle.tok_buffer.proofs.View.Moves.{LeadsTo, leads-take}
+use Rattle.tok_buffer.proofs.View.Moves.{leads-take}
 use Rattle.syn_parse.specs.Positions.{scope_trees}
-use Rattle.syn_parse.specs.Runs.{PassesVisible, none_passed, one_more, onwards, passing}
+use Rattle.syn_parse.specs.Runs.{PassesVisible, none_passed, one_more, passing}
 use Rattle.syn_parse.specs.Runs.{take_run_with_state}
 use Rattle.syn_parse.specs.State.{State, moved}
 use Rattle.syn_parse.specs.Takes.{TakesAs}
 use Rattle.syn_parse.specs.TreesAhead.{scope_of}
-use Rattle.syn_parse.proofs.Positions.{InScope, visible_kept}
+use Rattle.syn_parse.proofs.Positions.{visible_kept}
 use Rattle.syn_parse.proofs.Scopes.{one_scope}
 
 same-pair : {A B : Type 0} {x y : A × B} → Some x ≡ Some y → (x.0 ≡ y.0) × (x.1 ≡ y.1)
@@ -57,10 +56,8 @@ module _ {S : Type 0} (step : S → Forest → Option S) where
 
   pub none-passed : (p : Place) (s : S) (q : Place) → q ≡ p → Passed p s q s
   none-passed p s q h =
-      subst (λ n. Passed p s n s) (sym h)
-      (record {
-        trees =
-            sym (ap (λ f. first_of (erase f) (passing step s (erased_ahead p))) (between_same p));
+      rw h (record {
+        trees = rw between_same refl;
         follows = from_here;
         passes = none_passed;
         scope = refl;
@@ -77,7 +74,7 @@ module _ {S : Type 0} (step : S → Forest → Option S) where
 
   gone : (u : Tree) (g : Forest) (s r : S) → step s (tree u g) ≡ Some r
       → passing step s (tree u g) ≡ first_of (tree u no_trees) (passing step r g)
-  gone u g s r e = ap (λ o. onwards s u g (option_map (λ x. passing step x g) o)) e
+  gone u g s r e = rw e refl
 
   first-first : (f g : Forest) (r : Forest × Forest × S)
       → first_of f (first_of g r) ≡ first_of (concat f g) r
@@ -91,7 +88,7 @@ module _ {S : Type 0} (step : S → Forest → Option S) where
       let t = read.0 in
       let e = read.1 in
       let u = erased_tree t in
-      let goes = subst (LeadsTo (GoesOn q)) e (visible_goes q) in
+      let goes = rw e at (visible_goes q) in
       let follows = tree_follows p q n (t ∷ []) so.follows e in
       let now : erased_ahead q ≡ tree u (erased_ahead n) =
       first-tree t u n (erased_ahead q) (sym (ap erased_read e) ∙ visible_tells q) refl in
@@ -112,10 +109,9 @@ module _ {S : Type 0} (step : S → Forest → Option S) where
           less = omega (arith, so.less, goes.1);
           reached =
               λ b i.
-              subst (LeadsTo (Reached b)) e
-              (leads-take (Reached b) (Reached b) (reached_leads_on b) any_tree (descend q)
+              rw e at (leads-take (Reached b) (Reached b) (reached_leads_on b) any_tree (descend q)
               (down q (so.reached b i)));
-          kept = subst (LeadsTo (InScope (scope_trees q))) e (visible_kept q) ∙ so.kept;
+          kept = (rw e at (visible_kept q)) ∙ so.kept;
         },
         goes.1,
       )
@@ -125,7 +121,7 @@ module _ {S : Type 0} (step : S → Forest → Option S) where
   ended q r e = go (erased_ahead q) e where
     go : (f : Forest) → None ≡ step r f → passing step r f ≡ (no_trees, f, r)
     go no_trees h = refl
-    go (tree t f) h = ap (λ o. onwards r t f (option_map (λ x. passing step x f) o)) (sym h)
+    go (tree t f) h = rw (← h) refl
 
   -- where no tree is read a run ends
   pub at-end : (q : Place) (r : S) → place_after (read_visible q) ≡ None

@@ -1,6 +1,6 @@
 -- Which trees are taken, in both directions: what is found is these trees, and these trees are
 -- found.
-use Rattle.std.proofs.Common.{arith, ◌≡◌, ◌∙◌, sym, ap, subst, refl, ℕ, ◌==◌, ◌&&◌, not, Bool, true}
+use Rattle.std.proofs.Common.{arith, ◌≡◌, ◌∙◌, sym, ap, refl, ℕ, ◌==◌, ◌&&◌, not, Bool, true}
 use Rattle.std.proofs.Common.{false, cond, List, [], ◌∷◌, ◌++◌, map, Option, Some, None, eq-eqb}
 use Rattle.std.proofs.Common.{bytes_eq}
 use Rattle.std.proofs.lemmas.Bool.{and_parts, false≢true}
@@ -98,7 +98,7 @@ by_read {T} Is read Are means lack r is are = record {
       let same : means ts ≡ v = found_first e in
       let after : record { trees = g; unread = a.unread } ≡ b = found_second e in (
         ts,
-        subst (λ w. Is w ts) same (is ts k.0),
+        rw same at (is ts k.0),
         ap (λ f. record { trees = f; unread = a.unread }) k.1 ∙ ap (before ts) after,
       )
 
@@ -182,7 +182,7 @@ module _ (read more : Forest → Option (List Tree × Forest)) (Are Others : Lis
   two_reads = record {
     taken = λ f g ts e. first f g ts (read f) refl e;
     takes = λ g ts i.
-        subst (λ xs. and_first (read (concat (forest xs) g)) more ≡ Some (xs, g)) (sym i.2)
+        rw i.2
         (ap (λ f. and_first (read f) more) (sym (forests_join i.0 i.1 g))
         ∙ ap (λ o. and_first o more) (h.takes (concat (forest i.1) g) i.0 i.3)
         ∙ ap (behind i.0) (k.takes g i.1 i.4));
@@ -204,7 +204,7 @@ text_is text t h = grind (arith, bytes_eq-Decides, false≢true)
 
 word_is : (text : List ℕ) (ts : List Tree) → One (is_ident_of (bytes_eq text)) ts
     → IsSpanOf text (span_in ts) ts
-word_is text ts i = subst (λ us. IsSpanOf text (span_in us) us) (sym i.1) (text_is text i.0 i.2)
+word_is text ts i = rw i.1 (text_is text i.0 i.2)
 
 is_word : (text : List ℕ) (span : Span) (ts : List Tree) → IsSpanOf text span ts
     → One (is_ident_of (bytes_eq text)) ts × (span_in ts ≡ span)
@@ -323,17 +323,12 @@ sign_shape {k} name c e own =
     record {
       taken = λ a b v h.
           let t = shape.taken a b v h in
-          let one = subst (λ text. Spells text t.0) e t.1.0 in (
-            t.0,
-            subst (IsSign c v) (sym one.1) (sign_is c v one.0 one.2 (t.1.1
-                ∙ ap (map tree_span) one.1)),
-            t.2,
-          );
+          let one = rw e at t.1.0 in
+          (t.0, rw one.1 (sign_is c v one.0 one.2 (rw one.1 at t.1.1)), t.2);
       takes = λ b v ts i.
           shape.takes b v ts (
-            subst (λ text. Spells text ts) (sym e)
-                (leaf (punct c i.0 i.1), i.2, ap (λ x. x && is_own c) (eq-eqb c c refl) ∙ own),
-            ap (λ (w : Punctuation k 1). w.spans) i.3 ∙ sym (ap (map tree_span) i.2),
+            rw e (leaf (punct c i.0 i.1), i.2, ap (λ x. x && is_own c) (eq-eqb c c refl) ∙ own),
+            rw (i.3, i.2) refl,
           );
     }
 
@@ -343,15 +338,12 @@ module _ {f : Forest} {u : Option Span} where
       → take_ident (record { trees = tree (leaf (ident_of name)) f; unread = u })
       ≡ found name (record { trees = f; unread = u })
   ident_ahead name e =
-      (token_shape token.ident tt).takes (record { trees = f; unread = u }) name
-      (leaf (ident_of name) ∷ []) (refl, e)
+      (token_shape token.ident tt).takes _ name (leaf (ident_of name) ∷ []) (refl, e)
 
   pub literal_ahead : (l : Literal)
       → take_literal (record { trees = tree (leaf (literal_of l)) f; unread = u })
       ≡ found l (record { trees = f; unread = u })
-  literal_ahead l =
-      (token_shape token.literal tt).takes (record { trees = f; unread = u }) l
-      (leaf (literal_of l) ∷ []) refl
+  literal_ahead l = (token_shape token.literal tt).takes _ l (leaf (literal_of l) ∷ []) refl
 
   pub sign_ahead : {k c : ℕ} → Shape (IsSign c) (take_token (token.punctuation k 1))
       → (spacing : Spacing) (span : Span)
@@ -359,12 +351,10 @@ module _ {f : Forest} {u : Option Span} where
       (record { trees = tree (leaf (punct c spacing span)) f; unread = u })
       ≡ found (record { spans = span ∷ [] }) (record { trees = f; unread = u })
   sign_ahead {k} {c} h spacing span =
-      h.takes (record { trees = f; unread = u }) (record { spans = span ∷ [] })
-      (leaf (punct c spacing span) ∷ []) (spacing, span, refl, refl)
+      h.takes _ _ (leaf (punct c spacing span) ∷ []) (spacing, span, refl, refl)
 
   pub group_ahead : {A : Type 0} (d : Delimiter) (inner : Taking A) {content : Forest} {span : Span}
       {x : A} → inner (only_trees content) ≡ found x all_taken
       → take_group d inner (record { trees = tree (group d content span) f; unread = u })
       ≡ found (record { join = span }, x) (record { trees = f; unread = u })
-  group_ahead d inner {content} {span} {x} e =
-      takes_group d inner content span x (record { trees = f; unread = u }) e
+  group_ahead d inner e = takes_group d inner _ _ _ _ e

@@ -1,5 +1,5 @@
 -- Parses of one read take what is ahead.
-use Rattle.std.proofs.Common.{◌≡◌, ◌∙◌, sym, ap, subst, arith, ℕ, List, [], ◌∷◌, Option, Some, None}
+use Rattle.std.proofs.Common.{◌≡◌, ◌∙◌, sym, ap, arith, ℕ, List, [], ◌∷◌, Option, Some, None}
 use Rattle.std.specs.Prelude.{Bool, Result, IfSome, cond, codes, not, map}
 use Rattle.std.proofs.lemmas.Bool.{false≢true}
 use Rattle.tok_leaves.specs.declared.span.Span.{Span}
@@ -176,10 +176,7 @@ sign_at : (text : List ℕ) (s : State) → IsFilled s.place
     (punctuation_span text s)
 sign_at [] s i = start_told s.place s.scope_span i
 sign_at (c ∷ cs) s i =
-    subst
-    (λ y. IsAt (scope_trees s.place) s.scope_span (punct_position y (erased_ahead s.place))
-    (punct_span (read_punct s.place) (state_span s)))
-    (tells of_punct s.place) (sign-at s i (read_punct s.place))
+    rw (tells of_punct s.place) at (sign-at s i (read_punct s.place))
 
 sign_told : (text : List ℕ) (s : State) (f : Fault) → Refuses (punctuation_message text s) f
     → SaysAt s (sign_missing text (erased_ahead s.place)) f

@@ -49,6 +49,7 @@ impl IdentExt for Ident {
 
     ghost is_unraw = { IsUnraw };
 
+    #[tactic(auto, using(crate::proofs::Told::token_told))]
     fn parse_any(input: ParseStream<'_, '_>) -> Result<Self> {
         any_ident(input)
     }
@@ -77,6 +78,7 @@ impl LifetimeExt for Lifetime {
 
     ghost any_takes = { told (λ v. v) take_any_lifetime (lower (lowers_token _)) };
 
+    #[tactic(auto, using(crate::proofs::Told::token_told))]
     fn parse_any(input: ParseStream<'_, '_>) -> Result<Self> {
         any_lifetime(input)
     }

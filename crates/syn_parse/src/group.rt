@@ -69,6 +69,7 @@ impl<'a, const D: usize> Delimited<'a, token::Visible<D>> {
 /// input.close(content);
 /// Ok((token, name?))
 /// ```
+#[tactic(auto, using(crate::proofs::GroupTakes::enters_ahead))]
 pub fn parse_parens<'a>(input: ParseStream<'_, 'a>) -> Result<Parens<'a>>
     ensures enters { Enters (λ p. AreParts p.token.span p.content)
         (enter delimiter.Parenthesis input.old.place)
@@ -82,6 +83,7 @@ pub fn parse_parens<'a>(input: ParseStream<'_, 'a>) -> Result<Parens<'a>>
 /// Enters the next group, which must be in braces, and moves `input` past the group.
 ///
 /// Apart from the delimiter, the call works like `parse_parens`.
+#[tactic(auto, using(crate::proofs::GroupTakes::enters_ahead))]
 pub fn parse_braces<'a>(input: ParseStream<'_, 'a>) -> Result<Braces<'a>>
     ensures enters { Enters (λ p. AreParts p.token.span p.content)
         (enter delimiter.Brace input.old.place)
@@ -95,6 +97,7 @@ pub fn parse_braces<'a>(input: ParseStream<'_, 'a>) -> Result<Braces<'a>>
 /// Enters the next group, which must be in brackets, and moves `input` past the group.
 ///
 /// Apart from the delimiter, the call works like `parse_parens`.
+#[tactic(auto, using(crate::proofs::GroupTakes::enters_ahead))]
 pub fn parse_brackets<'a>(input: ParseStream<'_, 'a>) -> Result<Brackets<'a>>
     ensures enters { Enters (λ p. AreParts p.token.span p.content)
         (enter delimiter.Bracket input.old.place)
@@ -227,6 +230,7 @@ impl<'a> ParseBuffer<'a> {
     }
 
     // Does what `within` does.
+    #[tactic(auto, using(crate::proofs::GroupTakes::group_entered))]
     fn run_within<F, R>(&mut self, delimiter: Delimiter, f: F) -> Result<(DelimSpan, R)>
     where
         F: FnOnce(ParseStream<'_, 'a>) -> Result<R>,

@@ -48,6 +48,7 @@ pub fn peeks_tell_parses()
 /// a parse of this token returns a value.
 ///
 /// The law also applies to token types whose number is past the end of the table.
+#[tactic(auto, using(crate::proofs::Reading::reads_at_once_tell))]
 pub fn peeks_tell_tokens<const K: usize, const N: usize>()
     ensures keywords { PeekTells ⟦<Keyword<K> as Token>⟧.peeks ⟦<Keyword<K> as Parse>⟧.parses }
     ensures punctuations { PeekTells ⟦<Punctuation<K, N> as Token>⟧.peeks
@@ -76,6 +77,7 @@ pub fn forks_follow()
 ///
 /// This span is the beginning of the next token, the whole token, the end of the scope, or a span
 /// that the contract names.
+#[tactic(auto, using(crate::proofs::Positions::said_once))]
 pub fn errors_have_one_span()
     ensures { ErrorsHaveOneSpan }
 {}
@@ -85,6 +87,7 @@ pub fn errors_have_one_span()
 ///
 /// Each call whose contract states which tokens it reads keeps the scope. A stream may therefore
 /// advance to a fork that has made such calls.
+#[tactic(auto, using(crate::proofs::Scopes::in_one_scope))]
 pub fn scopes_tell()
     ensures { ScopesTell }
 {}
@@ -102,6 +105,7 @@ pub fn views_decide_words()
 
 /// If the result of `peek` for a token type does not depend on invisible groups, then the results
 /// of `peek2` and `peek3` for this type do not depend on them.
+#[tactic(auto, using(crate::proofs::Views::peeks2_ignore, crate::proofs::Views::peeks3_ignore))]
 pub fn peeks_past_ignore_invisible<T: Token>()
     ensures second { IgnoresInvisible T.peeks → IgnoresInvisible (Peeks2 T.peeks) }
     ensures third { IgnoresInvisible T.peeks → IgnoresInvisible (Peeks3 T.peeks) }

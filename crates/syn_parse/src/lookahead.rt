@@ -115,6 +115,7 @@ impl<'a> Lookahead1<'a> {
     /// closing delimiter, the error does not name its end. If there are no names, the text is
     /// "unexpected end of input" or "unexpected token". Returns `Fault::Memory` if an allocation
     /// fails.
+    #[tactic(auto, using(crate::proofs::Told::look_told))]
     pub fn error(self) -> Fault
         ensures refuses { Refuses (look_message self.entry) result }
         ensures says { SaysAt (at_look self.entry) (look_missing self.entry) result }

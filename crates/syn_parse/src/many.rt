@@ -119,6 +119,7 @@ impl<A: Parse + Drop, B: Parse> Parse for (A, B) {
 
     ghost takes = { both A.takes B.takes };
 
+    #[tactic(auto, using(crate::proofs::Sequences::both_keep, crate::proofs::Returned::error_keeps, crate::proofs::Returned::error_calls), unfolding(crate::specs::Reads::Does))]
     fn parse(input: ParseStream<'_, '_>) -> Result<Self> {
         let first = input.parse()?;
         let second = input.parse()?;
@@ -140,6 +141,7 @@ impl<A: Parse + Drop, B: Parse + Drop, C: Parse> Parse for (A, B, C) {
 
     ghost takes = { three A.takes B.takes C.takes };
 
+    #[tactic(auto, using(crate::proofs::Sequences::three_keep, crate::proofs::Returned::error_keeps, crate::proofs::Returned::error_calls), unfolding(crate::specs::Reads::Does))]
     fn parse(input: ParseStream<'_, '_>) -> Result<Self> {
         let first = input.parse()?;
         let second = input.parse()?;

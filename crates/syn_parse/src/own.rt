@@ -61,6 +61,7 @@ pub trait Word {
 // Returns the text that is in backquotes.
 // Inlined: callers know the text, so it is cut at compile time.
 #[inline(always)]
+#[tactic(auto, using(crate::proofs::Owned::after_quote, crate::proofs::Owned::before_quote, crate::proofs::Owned::text_is))]
 fn unquoted(quoted: &str) -> &str
     requires { (text : List ℕ) × (quoted.now ≡ in_backquotes text) }
     ensures { (text : List ℕ) → quoted.now ≡ in_backquotes text → result.now ≡ text }
@@ -83,6 +84,7 @@ impl<'a> ParseBuffer<'a> {
     /// let span = input.parse_word("target")?;
     /// ```
     #[inline(always)]
+    #[tactic(auto, using(crate::proofs::Told::own_told))]
     pub fn parse_word(&mut self, text: &str) -> Result<Span>
         ensures reads { WordParses (λ span. span) text.now self.old result self.new }
         ensures takes { Takes (take_own text.now) self.old result self.new }
@@ -100,6 +102,7 @@ impl<'a> ParseBuffer<'a> {
     /// let is_target = input.peek_word("target");
     /// ```
     #[inline(always)]
+    #[tactic(auto, using(crate::proofs::Owned::own_seen))]
     pub fn peek_word(&self, text: &str) -> bool
         ensures peeks { PeeksFor (read_keyword text.now) self.now.place result }
         ensures sees { Sees (Some (own_first text.now)) self.now.place result }
@@ -139,6 +142,7 @@ impl<W: Word> Token for Own<W> {
 
     ghost shown = { IsText (in_backquotes W.text) };
 
+    #[tactic(auto, using(crate::proofs::Owned::own_seen))]
     fn peek(cursor: Cursor<'_>) -> bool {
         cursor.peek_keyword(W::text())
     }
@@ -153,6 +157,7 @@ impl<W: Word> Parse for Own<W> {
 
     ghost takes = { told (λ own. own.span) (take_own W.text) (lower (lowers_token _)) };
 
+    #[tactic(auto, using(crate::proofs::Told::own_told))]
     fn parse(input: ParseStream<'_, '_>) -> Result<Self> {
         own_token(input)
     }

@@ -76,6 +76,7 @@ impl<'a> ParseBuffer<'a> {
     }
 
     /// Returns `true` if the token after the next token is a `T`. The stream does not move.
+    #[tactic(auto, using(crate::proofs::Skips::none_next, crate::proofs::Skips::seen_next))]
     pub fn peek2<T: Token>(&self) -> bool
         ensures peeks { Peeks2 T.peeks self.now.place result }
         ensures sees { Sees (second_sees T.sees) self.now.place result }
@@ -87,6 +88,7 @@ impl<'a> ParseBuffer<'a> {
     }
 
     /// Returns `true` if the token after the next two tokens is a `T`. The stream does not move.
+    #[tactic(auto, using(crate::proofs::Skips::none_next, crate::proofs::Skips::seen_next))]
     pub fn peek3<T: Token>(&self) -> bool
         ensures peeks { Peeks3 T.peeks self.now.place result }
         ensures sees { Sees (third_sees T.sees) self.now.place result }

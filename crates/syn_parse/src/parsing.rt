@@ -105,6 +105,7 @@ impl<'a> ParseBuffer<'a> {
 // Returns the span of the next token if it is the identifier with this text, and the cursor after
 // it.
 #[inline(always)]
+#[tactic(auto, using(crate::proofs::Names::keyword_none, crate::proofs::Names::keyword_other))]
 fn word<'a>(cursor: Cursor<'a>, text: &str) -> Option<(Span, Cursor<'a>)>
     ensures { MatchOption result
         (read_keyword text.now (place_of cursor.entry) ≡ None)

@@ -137,6 +137,7 @@ impl<'a> ParseBuffer<'a> {
     ///     return Ok(None);
     /// }
     /// ```
+    #[tactic(auto, using(crate::proofs::Told::end_told))]
     pub fn is_empty(&self) -> bool
         ensures at_end { result ≡ is_at_end self.now.place }
         ensures spent { IsFilled self.now.place → result ≡ is_spent (ahead self.now) }
@@ -235,6 +236,7 @@ impl<'a> ParseBuffer<'a> {
     /// # Requires
     ///
     /// `fork` must be in the scope of this stream.
+    #[tactic(auto, using(crate::proofs::Scopes::advanced_ahead))]
     pub fn advance_to(&mut self, fork: Self)
         requires { same_scope self.old.place fork.place ≡ true }
         ensures moves { self.new ≡ advanced fork.entry self.old }
@@ -273,6 +275,7 @@ impl<'a> ParseBuffer<'a> {
     /// is the one that `content` has recorded itself, or otherwise the first unread token of
     /// `content`, if there is one. If this stream already has a leftover, the call does not replace
     /// it.
+    #[tactic(auto, using(crate::proofs::GroupTakes::closed_ahead))]
     pub fn close(&mut self, content: Self)
         ensures closes { self.new ≡ closed content.entry self.old }
         ensures takes { ahead self.new ≡ after_content (ahead content.entry) (ahead self.old) }

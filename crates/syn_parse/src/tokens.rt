@@ -21,6 +21,7 @@ impl<const K: usize> Parse for Keyword<K> {
 
     ghost takes = { told (λ v. v) (take_token (spec.keyword K)) (lower (lowers_token _)) };
 
+    #[tactic(auto, using(crate::proofs::Told::token_told))]
     fn parse(input: ParseStream<'_, '_>) -> Result<Self> {
         keyword_token(input)
     }
@@ -42,6 +43,7 @@ impl<const K: usize, const N: usize> Parse for Punctuation<K, N> {
 
     // Inlined: a call would pass the spans through memory, and takes longer than to read them.
     #[inline(always)]
+    #[tactic(auto, using(crate::proofs::Told::token_told))]
     fn parse(input: ParseStream<'_, '_>) -> Result<Self> {
         punctuation_token(input)
     }
@@ -64,6 +66,7 @@ impl Parse for Underscore {
 
     ghost takes = { told (λ u. first_span u.spans) take_underscore (lower (lowers_token _)) };
 
+    #[tactic(auto, using(crate::proofs::Told::own_told))]
     fn parse(input: ParseStream<'_, '_>) -> Result<Self> {
         underscore(input)
     }

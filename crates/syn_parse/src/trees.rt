@@ -20,6 +20,7 @@ impl Parse for Ident {
 
     ghost takes = { told (λ v. v) take_ident (lower (lowers_token _)) };
 
+    #[tactic(auto, using(crate::proofs::Told::token_told))]
     fn parse(input: ParseStream<'_, '_>) -> Result<Self> {
         ident(input)
     }
@@ -53,6 +54,7 @@ impl Parse for Lifetime {
 
     ghost takes = { told (λ v. v) take_lifetime (lower (lowers_token _)) };
 
+    #[tactic(auto, using(crate::proofs::Told::token_told))]
     fn parse(input: ParseStream<'_, '_>) -> Result<Self> {
         lifetime(input)
     }
@@ -92,6 +94,7 @@ impl Parse for Literal {
 
     ghost takes = { told (λ v. v) take_literal (lower (lowers_token _)) };
 
+    #[tactic(auto, using(crate::proofs::Told::token_told))]
     fn parse(input: ParseStream<'_, '_>) -> Result<Self> {
         literal(input)
     }
@@ -119,6 +122,7 @@ impl Parse for Punct {
 
     ghost takes = { told (λ v. v) take_punct (lower (lowers_token _)) };
 
+    #[tactic(auto, using(crate::proofs::Told::token_told))]
     fn parse(input: ParseStream<'_, '_>) -> Result<Self> {
         punct(input)
     }
@@ -153,6 +157,7 @@ impl Parse for TokenTree {
 impl Parse for Group {
     ghost parses = { GroupParses };
 
+    #[tactic(auto, using(crate::proofs::Names::no_group, crate::proofs::Reading::reads_refused))]
     fn parse(input: ParseStream<'_, '_>) -> Result<Self> {
         let alloc = input.allocator();
         let cursor = input.cursor();

@@ -24,6 +24,7 @@ impl<'a> ParseBuffer<'a> {
     /// ```rust
     /// let value = input.visible_tree()?;
     /// ```
+    #[tactic(auto, using(crate::proofs::TreeTakes::tree_told))]
     pub fn visible_tree(&mut self) -> Result<TokenTree>
         ensures reads { VisibleTreeParses self.old result self.new }
         ensures takes { TakesAs (λ t. erased_tree (tree_of t)) take_tree self.old result self.new }

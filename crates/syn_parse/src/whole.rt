@@ -22,6 +22,7 @@ use tok_core::{Edition, Span, TokenStream};
 /// ```rust
 /// let call: Call = parse2(alloc, tokens)?;
 /// ```
+#[tactic(auto, using(crate::proofs::WholeTakes::whole_keeps))]
 pub fn parse2<T: Parse + Drop>(alloc: Global, tokens: TokenStream) -> Result<T>
     ensures reads { ParsesWhole T.parses (whole_stream tokens call_site) result }
     ensures takes { KeepsWhole T.takes tokens call_site result }
@@ -113,6 +114,7 @@ pub fn parse_source<T: Parse + Drop>(alloc: Global, edition: Edition, text: &str
 /// # Requires
 ///
 /// The contract of `T::parse` must state which tokens it reads.
+#[tactic(auto, using(crate::proofs::WholeTakes::both_keep, crate::proofs::WholeTakes::words_keep))]
 pub fn parse_both<T: Parse + Drop>(
     alloc: Global,
     left: TokenStream,

@@ -3,7 +3,7 @@ use Rattle.syn_parse.specs.ErrorWords.{refused_at}
 use Rattle.syn_parse.specs.Faults.{Refuses}
 use Rattle.syn_parse.specs.Parses.{IsLiteral}
 use Rattle.syn_parse.specs.Reads.{does}
-use Rattle.syn_parse.proofs.Reading.{reads-refused}
+use Rattle.syn_parse.proofs.Reading.{reads_refused}
 use Rattle.syn_literals.specs.Kinds.{read_literal_of}
 use Rattle.syn_literals.proofs.KindReads.{kind_parsed, not_some}
 use Rattle.syn_literals.proofs.kind.parse_kind.Goals as goal
@@ -14,7 +14,7 @@ returns-then-not-peek_kind g c =
     let none : is_some (read_literal_of g.K.Kind.accepts s.place) ≡ false =
     ap (λ p. is_some (read_literal_of g.K.Kind.accepts p)) (sym c.cursor.ensures)
     ∙ sym c.peek_kind.ensures ∙ c.if-not-peek_kind.true in
-    reads-refused IsLiteral (refused_at s g.K.Kind.words) s _ c.error.result (not_some _ none)
+    reads_refused IsLiteral (refused_at s g.K.Kind.words) s _ c.error.result (not_some _ none)
     (subst (λ w. Refuses (refused_at s w) c.error.result) c.words.ensures c.error.ensures.words)
 
 pub returns : goal.returns

@@ -1,10 +1,9 @@
-use Rattle.std.proofs.Common.{◌≡◌, inl, refl, subst, rules}
+use Rattle.std.proofs.Common.{◌≡◌, inl, refl, rules}
 use Rattle.std.specs.Str.{chars}
 use Rattle.tok_lexical.specs.declared.rule.Mode.TheVariants.{Plain}
 use Rattle.tok_leaves.specs.Spans.{call_site}
 use Rattle.tok_core.proofs.Lexical.Visible.{all_visible}
 use Rattle.syn_parse.specs.Parsers.{whole_stream}
-use Rattle.syn_parse.specs.Takings.{Keeps}
 use Rattle.syn_parse.proofs.WholeTakes.{lexer_once, text_once, whole_keeps}
 use Rattle.syn_parse.proofs.whole.parse_str.Goals as goal
 
@@ -18,8 +17,7 @@ returns-in-Ok-clause-takes g c =
       all_visible 0 Plain 0 (chars c.args.text.now) f refl c.in-Ok.ensures.follows.reads,
       whole_keeps g.T.Parse.takes f call_site c.parse-parsed.result c.parse-parsed.new.input
           c.settle.result
-          (subst (λ s. Keeps g.T.Parse.takes s c.parse-parsed.result c.parse-parsed.new.input) from
-          c.parse-parsed.ensures.takes)
+          (rw from at c.parse-parsed.ensures.takes)
           c.settle.ensures,
     )
 

@@ -1,9 +1,8 @@
-use Rattle.std.proofs.Common.{◌≡◌, inl, refl, subst, rules}
+use Rattle.std.proofs.Common.{◌≡◌, inl, refl, rules}
 use Rattle.std.specs.Str.{chars}
 use Rattle.tok_lexical.specs.declared.rule.Mode.TheVariants.{Plain}
 use Rattle.tok_core.proofs.Lexical.Visible.{all_visible}
 use Rattle.syn_parse.specs.Sources.{end_of_tokens, source_stream}
-use Rattle.syn_parse.specs.Takings.{Keeps}
 use Rattle.syn_parse.proofs.WholeTakes.{explained_once, text_once, whole_keeps}
 use Rattle.syn_parse.proofs.whole.parse_text.Goals as goal
 
@@ -19,8 +18,7 @@ returns-in-Ok-clause-takes g c =
           c.in-Ok.ensures.follows.reads,
       whole_keeps g.T.Parse.takes f end c.parse-parsed.result c.parse-parsed.new.input
           c.settle.result
-          (subst (λ s. Keeps g.T.Parse.takes s c.parse-parsed.result c.parse-parsed.new.input) from
-          c.parse-parsed.ensures.takes)
+          (rw from at c.parse-parsed.ensures.takes)
           c.settle.ensures,
     )
 
