@@ -3,6 +3,7 @@ use Rattle.std.proofs.Common.{arith, ◌≡◌, ◌∙◌, sym, ap, true, Option
 use Rattle.std.proofs.Common.{Err, List}
 use Rattle.std.specs.Prelude.{IfSome, MatchOption, Result, is_some, option_map}
 use Rattle.std.specs.Option.{option_or}
+use Rattle.std.proofs.lemmas.Option.{same_Some}
 use Rattle.tok_core.specs.Erase.{erase}
 use Rattle.tok_core.specs.Filled.{filled, has_trees}
 use Rattle.tok_buffer.specs.InFront.{first_tree_span}
@@ -35,13 +36,10 @@ handed-in : (n l : Option Leftover) (f : Forest) → is_some l ≡ has_trees f
     → record { trees = f; unread = option_map (λ x. x.span) n } ≡ all_taken → option_or n l ≡ None
 handed-in n l f e h = grind arith
 
-same-left : {k l : Leftover} → Some k ≡ Some l → l ≡ k
-same-left e = cc
-
 left-at : (n q : Option Leftover) (t : Option Span) (l : Leftover) (e : Fault)
     → option_or n q ≡ Some l → option_map (λ x. x.span) q ≡ t → Refuses (leftover_message l) e
     → IfSome (option_or (option_map (λ x. x.span) n) t) (λ span. RefusesAt span e)
-left-at n q t l e h s r = grind (arith, same-left)
+left-at n q t l e h s r = grind (arith, same_Some)
 
 module _ {T A : Type 0} (form : T → A) (take : Taking A) (f : Forest) (scope : Span) where
   start-ahead : ahead (whole_stream f scope) ≡ whole f

@@ -1,4 +1,4 @@
--- A group takes what is inside, and then what is after it.
+-- A group takes what is inside, and then what is after it; how a stream enters and closes one.
 use Rattle.std.proofs.Common.{◌≡◌, ◌∙◌, sym, ap, refl, arith, ◌<◌, ◌≤◌, Option, Some, None, Ok, Err}
 use Rattle.std.specs.Option.{option_or}
 use Rattle.std.specs.Prelude.{Result, is_some, length, option_map}

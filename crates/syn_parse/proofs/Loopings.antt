@@ -79,8 +79,7 @@ module _ {T : Type 0} {goes_on ends : Place → Type 0} {parses : Call T}
   pub loop-lost : (v : T) (u : State) (f : Fault) → Does parses t (Ok v) u → IsMemory f
       → (r : Result (Vec T) Fault) → r ≡ Err f → Does (Loops goes_on ends parses) s r u
   unfolding Does
-  loop-lost v u f j k r e =
-      rw e (lost vs v f u (more v u j) k)
+  loop-lost v u f j k r e = rw e (lost vs v f u (more v u j) k)
 
   pub loop-stuck : (v : T) (u : State) (f : Fault) → Does parses t (Ok v) u
       → Keeps takes t (Ok v) u → n ≡ 0 → Refuses (nothing_taken u) f

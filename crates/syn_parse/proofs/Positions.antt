@@ -1,4 +1,5 @@
--- The span of a stream is one of the position of what is ahead of it.
+-- The span of a stream is one of the position of what is ahead of it; without invisible groups
+-- there is only one.
 use Rattle.std.proofs.Common.{arith, ◌≡◌, ◌∙◌, refl, ◌&&◌, true, false, cond, List, [], ◌∷◌, Some}
 use Rattle.std.proofs.Common.{None}
 use Rattle.std.proofs.lemmas.Bool.{and_parts, false≢true}
@@ -67,8 +68,7 @@ reached-nested : (b : Laid) (p : Place) → Reached b p → IsNested p
 reached-nested b _ begin = tt
 reached-nested b _ (down p r) = kept-descend IsNested moved-nested.kept p (reached-nested b p r)
 reached-nested b _ (past p r) = moved-pass IsNested moved-nested p (reached-nested b p r)
-reached-nested b _ (into d p e v i r) =
-    rw i at (nested-content d p v)
+reached-nested b _ (into d p e v i r) = rw i at (nested-content d p v)
 reached-nested b _ nowhere = tt
 
 into-trees : (o : Enclosing) (p inside : Forest) (span : Span) (f : Forest) (ls : List Frame)
@@ -234,7 +234,7 @@ module _ (d : Delimiter) (visible : IsVisibleDelimiter d) (p : Place) (e : Enter
   pub content_at : IsFilled p → (close scope : Span) (x : Position) (span : Span)
       → IsAt (scope_trees e.content) close x span
       → IsAt (scope_trees p) scope (seen_outside close x) span
-  content_at i close scope v1 span h = grind (arith, before-content)
+  content_at i close scope x span h = grind (arith, before-content)
 
 -- In a forest without invisible groups a position has one span.
 abbrev StartsVisible : Forest → Type 0
@@ -287,7 +287,7 @@ module _ (part : Tree → Span) (span : Span) (t : Tree) (g : Forest) where
 
 pub one_span : (f : Forest) → erase f ≡ f → (scope : Span) (x : Position) (span : Span)
     → IsAt f scope x span → span ≡ only_span scope x
-one_span f e scope v1 span h = grind (arith, stands-once)
+one_span f e scope x span h = grind (arith, stands-once)
 
 -- where no invisible group is, an error says what is missing at one span
 pub said_once : ErrorsHaveOneSpan

@@ -1,4 +1,5 @@
--- How a read, an error and an allocation failure meet the definitions of one-step parsers.
+-- How a read, an error and an allocation failure meet the definitions of one-step parsers, and what
+-- a peek of the read tells.
 use Rattle.std.proofs.Common.{arith, ◌≡◌, refl, List, Option, Some, None, Ok, Err, Bool}
 use Rattle.std.proofs.Common.{is_some}
 use Rattle.std.proofs.lemmas.Result.{err_from_is_err_and}

@@ -37,7 +37,7 @@ module _ {A : Type 0} (test : Ahead → Bool) (take : Taking A) (less : Lowers t
 
   first-first : (vs : List A) (v : A) (o : Outcome (List A))
       → first_of vs (and_then o (λ ws d. found (v ∷ ws) d)) ≡ first_of (vs ++ v ∷ []) o
-  first-first vs v v1 = grind (arith, append_assoc)
+  first-first vs v o = grind (arith, append_assoc)
 
   one-more : (a b c : Ahead) (vs : List A) (v : A) → SoFar a vs b → test b ≡ true
       → take b ≡ found v c → SoFar a (vs ++ v ∷ []) c

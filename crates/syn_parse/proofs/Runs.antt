@@ -1,6 +1,7 @@
 -- The trees of a run, one after another.
 use Rattle.std.proofs.Common.{◌≡◌, ◌∙◌, sym, ap, refl, arith, ◌<◌, ◌≤◌, List, [], ◌∷◌}
 use Rattle.std.proofs.Common.{Option, Some, None, Ok}
+use Rattle.std.proofs.lemmas.Option.{some_pair_parts}
 use Rattle.tok_core.specs.Erase.{erase}
 use Rattle.tok_core.specs.Forest.{Tree, Forest, no_trees, tree, concat}
 use Rattle.tok_core.proofs.Facts.{concat-none, joined_assoc}
@@ -28,9 +29,6 @@ use Rattle.syn_parse.specs.Takes.{TakesAs}
 use Rattle.syn_parse.specs.TreesAhead.{scope_of}
 use Rattle.syn_parse.proofs.Positions.{visible_kept}
 use Rattle.syn_parse.proofs.Scopes.{one_scope}
-
-same-pair : {A B : Type 0} {x y : A × B} → Some x ≡ Some y → (x.0 ≡ y.0) × (x.1 ≡ y.1)
-same-pair {A} {B} {x} {y} e = let k : x ≡ y = cc in (ap (λ p. p.0) k, ap (λ p. p.1) k)
 
 same-head : (t u : Tree) → t ∷ [] ≡ u ∷ [] → t ≡ u
 same-head t u e = cc
@@ -70,7 +68,7 @@ module _ {S : Type 0} (step : S → Forest → Option S) where
   first-tree : (t u : Tree) (q : Place) (f : Forest)
       → erased_read (Some (t ∷ [], q)) ≡ first_if any_tree f → erased_tree t ≡ u
       → f ≡ tree u (erased_ahead q)
-  first-tree t u q f e k = grind (arith, same-pair, same-head)
+  first-tree t u q f e k = grind (arith, some_pair_parts, same-head)
 
   gone : (u : Tree) (g : Forest) (s r : S) → step s (tree u g) ≡ Some r
       → passing step s (tree u g) ≡ first_of (tree u no_trees) (passing step r g)

@@ -4,6 +4,7 @@ use Rattle.std.proofs.Common.{arith, ◌≡◌, ◌∙◌, sym, ap, refl, ℕ, �
 use Rattle.std.proofs.Common.{false, cond, List, [], ◌∷◌, ◌++◌, map, Option, Some, None, eq-eqb}
 use Rattle.std.proofs.Common.{bytes_eq}
 use Rattle.std.proofs.lemmas.Bool.{and_parts, false≢true}
+use Rattle.std.proofs.lemmas.Option.{some_pair_parts}
 use Rattle.std.proofs.lemmas.Slice.Eq.{bytes_eq-Decides}
 use Rattle.tok_lexical.specs.declared.delimiter.Delimiter.{Delimiter}
 use Rattle.tok_leaves.specs.declared.ident.Ident.{Ident}
@@ -102,25 +103,10 @@ by_read {T} Is read Are means lack r is are = record {
         ap (λ f. record { trees = f; unread = a.unread }) k.1 ∙ ap (before ts) after,
       )
 
-abbrev Read : Type 0
-Read = Option (List Tree × Forest)
-
-abbrev found_read : List Tree → Forest → Read
-found_read ts f = Some (ts, f)
-
-is_read : (x y : List Tree × Forest) → Some x ≡ Some y → x ≡ y
-is_read x y e = cc
-
-trees_are : {us ts : List Tree} {f g : Forest} → found_read us f ≡ found_read ts g → us ≡ ts
-trees_are e = ap (λ (r : List Tree × Forest). r.0) (is_read _ _ e)
-
-rest_is : {us ts : List Tree} {f g : Forest} → found_read us f ≡ found_read ts g → f ≡ g
-rest_is e = ap (λ (r : List Tree × Forest). r.1) (is_read _ _ e)
-
 -- the first tree, by a test
 first_tree : (wanted : Tree → Bool)
     → ReadShape (first_if wanted) (λ ts. (t : Tree) × (ts ≡ t ∷ []) × (wanted t ≡ true))
-first_tree wanted = grind (arith, trees_are, rest_is)
+first_tree wanted = grind (arith, some_pair_parts)
 
 abbrev One : (Tree → Bool) → List Tree → Type 0
 One wanted ts = (t : Tree) × (ts ≡ t ∷ []) × (wanted t ≡ true)
@@ -148,7 +134,7 @@ forests_join [] ws g = refl
 forests_join (u ∷ us) ws g = ap (tree u) (forests_join us ws g)
 
 -- what is read after these trees
-abbrev behind : List Tree → Read → Read
+abbrev behind : List Tree → Option (List Tree × Forest) → Option (List Tree × Forest)
 behind us o = elim o [ Some q ↦ Some (us ++ q.0, q.1) | None ↦ None ]
 
 module _ (read more : Forest → Option (List Tree × Forest)) (Are Others : List Tree → Type 0)
@@ -164,8 +150,7 @@ module _ (read more : Forest → Option (List Tree × Forest)) (Are Others : Lis
   second us m f g ts a e None x y = absurd (cc)
   second us m f g ts a e (Some (ws, l)) x y =
       let b = k.taken m l ws x in
-      let same = trees_are y in
-      let end = rest_is y in (
+      let (same, end) = some_pair_parts _ _ _ _ y in (
         (us, ws, sym same, a, b.0),
         e ∙ ap (concat (forest us)) b.1 ∙ forests_join us ws l
             ∙ ap (λ xs. concat (forest xs) l) same ∙ ap (concat (forest ts)) end,

@@ -1,5 +1,6 @@
 -- Where the tokens of a source end.
 use Rattle.std.proofs.Common.{arith, ◌≡◌, ap, subst, refl, ℕ, true, Option, Some, List, []}
+use Rattle.std.proofs.lemmas.Option.{same_Some}
 use Rattle.tok_leaves.specs.Spans.{call_site}
 use Rattle.tok_leaves.specs.declared.span.Span.{Span}
 use Rattle.tok_core.specs.Forest.{Tree, Forest, no_trees, tree, tree_span}
@@ -23,14 +24,11 @@ after-some : {x : Option (List Tree × Place)} {ts : List Tree} {r : Place}
     → x ≡ Some (ts, r) → place_after x ≡ Some r
 after-some e = ap place_after e
 
-one-place : {p q : Place} → Some p ≡ Some q → p ≡ q
-one-place e = cc
-
 passes-one : (last : Span) (q r : Place) (ts : List Tree) → IsOutside last q
     → read_tree q ≡ Some (ts, r) → IsOutside last r
 passes-one last q r ts (outside n s c passed no_trees h) e = absurd (cc)
 passes-one last q r ts (outside n s c passed (tree t f) h) e =
-    subst (IsOutside last) (one-place (after-some e)) (outside n s _ (tree t passed) f h)
+    subst (IsOutside last) (same_Some _ _ (after-some e)) (outside n s _ (tree t passed) f h)
 
 passes-all : (last : Span) (p q : Place) → IsOutside last p → PassesTrees p q → IsOutside last q
 passes-all last p q h here = h

@@ -1,6 +1,7 @@
 -- Errors and peeks at places with equal views.
 use Rattle.std.proofs.Common.{arith, ◌≡◌, ◌∙◌, sym, refl, ℕ, Bool, List, ◌++◌, Option, Some, None}
 use Rattle.std.specs.Prelude.{IfSome, codes, option_map}
+use Rattle.std.proofs.lemmas.Option.{same_Some}
 use Rattle.tok_core.specs.Forest.{Tree}
 use Rattle.tok_buffer.specs.Buffer.{Laid}
 use Rattle.tok_buffer.specs.Place.{Place}
@@ -16,15 +17,12 @@ use Rattle.syn_parse.specs.Reads.{Peeks2, Peeks3, PeeksPast}
 use Rattle.syn_parse.specs.ErrorWords.{ident_words, lifetime_words, name_in}
 use Rattle.syn_parse.proofs.SameWords.{alike-at_stream, alike-look}
 
-some_same : {A : Type 0} (a b : A) → Some a ≡ Some b → a ≡ b
-some_same a b e = cc
-
 -- words that depend on the trees read alone
 same-words : (b c : Laid) (words : Option (List Tree × Place) → List ℕ) (some : List Tree → List ℕ)
     → ((r : List Tree × Place) → words (Some r) ≡ some r.0)
     → (r q : Option (List Tree × Place)) → with_view b.forest r ≡ with_view c.forest q
     → words r ≡ words q
-same-words b c words some e r q h = grind (arith, some_same)
+same-words b c words some e r q h = grind (arith, same_Some)
 
 pub views_decide_words : ViewsDecideWords
 views_decide_words b c s t v =

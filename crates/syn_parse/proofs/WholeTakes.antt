@@ -1,12 +1,13 @@
 -- A whole stream takes what its type states.
-use Rattle.std.proofs.Common.{arith, Err, Ok, refl}
+use Rattle.std.proofs.Common.{arith, ◌≡◌, Err, Ok, refl}
 use Rattle.std.specs.Prelude.{List, ℕ, Result}
 use Rattle.tok_lexical.specs.Widths.{bytes}
 use Rattle.tok_lexical.specs.declared.edition.Edition.{Edition}
-use Rattle.tok_lexical.specs.declared.rule.Mode.TheVariants.{Source}
+use Rattle.tok_lexical.specs.declared.rule.Mode.TheVariants.{Plain, Source}
 use Rattle.tok_core.proofs.Lexical.Visible.{all_visible}
 use Rattle.tok_core.specs.Forest.{Forest}
 use Rattle.tok_core.specs.Lexical.Outcome.{FollowsSource}
+use Rattle.tok_core.specs.Lexical.Reading.{ReadsForest}
 use Rattle.tok_core.specs.declared.lexer.error.LexError.{LexError}
 use Rattle.tok_core.specs.declared.lexer.error.LexFault.{LexFault}
 use Rattle.tok_buffer.specs.Messages.{message_at}
@@ -18,12 +19,12 @@ use Rattle.syn_parse.proofs.Finished.{words_agree}
 use Rattle.syn_parse.proofs.Premises.{given, given_on, premise, under}
 use Rattle.syn_parse.specs.Faults.{FailsWith}
 use Rattle.syn_parse.specs.Parsers.{FailsExplained, Finishes, OnMemory, ParsesWhole}
-use Rattle.syn_parse.specs.Parsers.{lex_message, whole_stream}
+use Rattle.syn_parse.specs.Parsers.{OfText, lex_message, whole_stream}
 use Rattle.syn_parse.specs.Reads.{Call}
-use Rattle.syn_parse.specs.Sources.{KeepsRead, end_of_tokens}
+use Rattle.syn_parse.specs.Sources.{OfRead, end_of_tokens}
 use Rattle.syn_parse.specs.State.{State}
 use Rattle.syn_parse.specs.Takes.{Taking, TakesAll}
-use Rattle.syn_parse.specs.Takings.{HasOneMessage, Keeps, KeepsBoth, KeepsTextTo, KeepsWhole}
+use Rattle.syn_parse.specs.Takings.{HasOneMessage, Keeps, KeepsBoth, KeepsVisible, KeepsWhole}
 use Rattle.syn_parse.specs.Takings.{KeepsWords, Takings, stated, told, untold, unweighed}
 use Rattle.syn_parse.specs.declared.fault.Fault.{Fault}
 
@@ -60,6 +61,16 @@ module _ {T : Type 0} where
       → KeepsWords takes left right x y
   words_keep takes left right x y h k = grind (arith, words_agree, given, premise)
 
+-- a text whose tokens are parsed keeps what is stated
+pub text_keeps : {T : Type 0} (takes : Takings T) (number : ℕ) (text : List ℕ) (f : Forest)
+    (end : Forest → Span) (s left : State) (returned result : Result T Fault)
+    → ReadsForest Plain number text f → s ≡ whole_stream f (end f) → Keeps takes s returned left
+    → Finishes returned left result → KeepsVisible takes end f result
+text_keeps takes number text f end s left returned result reads is h k = (
+  all_visible 0 Plain number text f refl reads,
+  whole_keeps takes f (end f) returned left result (rw is at h) k,
+)
+
 -- an error of a text has one message
 module _ {T A : Type 0} (form : T → A) (take : Taking A) where
   abbrev ErrsOnce : Result T Fault → Type 0
@@ -84,12 +95,13 @@ explained_once T text e (Err f) (span, words, shown, h) = (message_at span words
 module _ {T : Type 0} (number : ℕ) (end : Forest → Span)
     (fails : LexError → Result T Fault → Type 0) (once : FailsOnce T fails) where
   pub text_once : (takes : Takings T) (text : List ℕ) (r : Result T Fault)
-      → KeepsTextTo number end fails takes text r → HasOneMessage takes r
+      → OfText number (KeepsVisible takes end) fails text r → HasOneMessage takes r
   text_once takes text r h = grind (arith, all-once, given, premise)
 
 module _ {T : Type 0} (edition : Edition) (text : List ℕ) where
   pub source_once : (takes : Takings T) (read : Result Forest LexFault) (r : Result T Fault)
-      → FollowsSource edition 0 text read → KeepsRead takes text read r → HasOneMessage takes r
+      → FollowsSource edition 0 text read
+      → OfRead (λ f. KeepsWhole takes f (end_of_tokens 0 f)) text read r → HasOneMessage takes r
   source_once untold read r follows h = tt
   source_once (stated alone form take w) (Ok f) r (front, rest, same, begins, follows) h =
       let shown = all_visible (bytes front) (Source edition) 0 rest f refl follows.reads in

@@ -16,8 +16,8 @@ use Rattle.syn_parse.specs.TreesAhead.{Ahead}
 use Rattle.syn_parse.specs.Takings.{Lessens, Lightens, Lowers}
 use Rattle.syn_parse.specs.Takes.{Taking, ◌>>=◌, gives, refuses, refuses_at, take_by, take_group}
 use Rattle.syn_parse.specs.Takes.{where_ahead}
-use Rattle.syn_parse.specs.Tokens.{TokenKind, any_ident, any_lifetime, ident, keyword, lifetime, literal}
-use Rattle.syn_parse.specs.Tokens.{own, punct, punctuation, take_token}
+use Rattle.syn_parse.specs.Tokens.{TokenKind, any_ident, any_lifetime, ident, keyword, lifetime}
+use Rattle.syn_parse.specs.Tokens.{literal, own, punct, punctuation, take_token}
 
 -- a parser that takes something adds nothing to what is ahead
 pub lightens_lower : {A : Type 0} (take : Taking A) → Lowers take → Lightens take

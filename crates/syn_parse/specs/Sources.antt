@@ -10,10 +10,11 @@ use Rattle.tok_leaves.specs.declared.span.Origin.TheVariants.{CallSite, Source}
 use Rattle.tok_leaves.specs.declared.span.Span.{Span}
 use Rattle.tok_lexical.specs.declared.edition.Edition.{Edition}
 use Rattle.tok_lexical.specs.declared.rule.Mode.TheVariants.{Plain}
-use Rattle.syn_parse.specs.Parsers.{FailsExplained, FailsToLex, ParsesTextTo, ParsesWhole, whole_stream}
+use Rattle.syn_parse.specs.Parsers.{FailsExplained, FailsToLex, OfText, ParsesWhole}
+use Rattle.syn_parse.specs.Parsers.{whole_stream}
 use Rattle.syn_parse.specs.Reads.{Call}
 use Rattle.syn_parse.specs.State.{State}
-use Rattle.syn_parse.specs.Takings.{KeepsTextTo, KeepsWhole, Takings}
+use Rattle.syn_parse.specs.Takings.{KeepsVisible, KeepsWhole, Takings}
 use Rattle.syn_parse.specs.declared.fault.Fault.{Fault}
 
 -- the empty span at the end of a span; for the call site, the start of this source
@@ -37,38 +38,35 @@ OnTextOf number holds text =
 -- the text of a source is parsed up to the end of its tokens, or the lexer's error is explained
 abbrev pub ParsesTextOf : {T : Type 0} → ℕ → Call T → List ℕ → Result T Fault → Type 0
 ParsesTextOf number parses text =
-    ParsesTextTo number (end_of_tokens number) (FailsExplained text) parses text
+    OfText number (λ f. ParsesWhole parses (source_stream number f)) (FailsExplained text) text
 
 -- the text of a source keeps what is stated up to the end of its tokens
 abbrev pub KeepsTextOf : {T : Type 0} → ℕ → Takings T → List ℕ → Result T Fault → Type 0
 KeepsTextOf number takes text =
-    KeepsTextTo number (end_of_tokens number) (FailsExplained text) takes text
+    OfText number (KeepsVisible takes (end_of_tokens number)) (FailsExplained text) text
 
 -- what holds of the stream of a Rust source's tokens, if the source has any
 abbrev pub OnSource : Edition → (State → Type 0) → List ℕ → Type 0
 OnSource edition holds text =
     (f : Forest) → FollowsSource edition 0 text (Ok f) → holds (source_stream 0 f)
 
--- the tokens that were read of a text are parsed, or the lexer's fault is explained
-abbrev pub ParsesRead : {T : Type 0} → Call T → (text : List ℕ) → Result Forest LexFault
+-- this holds of the tokens that were read of a text, or the lexer's fault is explained
+abbrev pub OfRead : {T : Type 0} → (holds : Forest → Result T Fault → Type 0) → (text : List ℕ)
+    → Result Forest LexFault → Result T Fault → Type 0
+OfRead holds text (Ok f) result = holds f result
+OfRead holds text (Err why) result = FailsToLex text why result
+
+-- a Rust source of an edition is read, and this holds of its tokens
+abbrev pub OfSource : {T : Type 0} → Edition → (holds : Forest → Result T Fault → Type 0) → List ℕ
     → Result T Fault → Type 0
-ParsesRead parses text (Ok f) result = ParsesWhole parses (source_stream 0 f) result
-ParsesRead parses text (Err why) result = FailsToLex text why result
+OfSource edition holds text result =
+    (read : Result Forest LexFault) × FollowsSource edition 0 text read
+    × OfRead holds text read result
 
 -- a Rust source of an edition is read, and its tokens are parsed
 abbrev pub ParsesSource : {T : Type 0} → Edition → Call T → List ℕ → Result T Fault → Type 0
-ParsesSource edition parses text result =
-    (read : Result Forest LexFault) × FollowsSource edition 0 text read
-    × ParsesRead parses text read result
-
--- a parse of the tokens that were read of a text keeps what is stated
-abbrev pub KeepsRead : {T : Type 0} → Takings T → (text : List ℕ) → Result Forest LexFault
-    → Result T Fault → Type 0
-KeepsRead takes text (Ok f) result = KeepsWhole takes f (end_of_tokens 0 f) result
-KeepsRead takes text (Err why) result = FailsToLex text why result
+ParsesSource edition parses = OfSource edition (λ f. ParsesWhole parses (source_stream 0 f))
 
 -- a Rust source of an edition is read, and a parse of its tokens keeps what is stated
 abbrev pub KeepsSource : {T : Type 0} → Edition → Takings T → List ℕ → Result T Fault → Type 0
-KeepsSource edition takes text result =
-    (read : Result Forest LexFault) × FollowsSource edition 0 text read
-    × KeepsRead takes text read result
+KeepsSource edition takes = OfSource edition (λ f. KeepsWhole takes f (end_of_tokens 0 f))

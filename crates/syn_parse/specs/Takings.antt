@@ -1,18 +1,15 @@
 -- What a type states of its parser, by the visible trees ahead.
-use Rattle.std.specs.Prelude.{◌≡◌, ◌<◌, ◌≤◌, ◌⊎◌, ℕ, Bool, true, false, List, IfErr, Result}
+use Rattle.std.specs.Prelude.{◌≡◌, ◌<◌, ◌≤◌, ℕ, Bool, true, false, List, IfErr, Result}
 use Rattle.std.specs.Global.{Box}
-use Rattle.tok_lexical.specs.declared.rule.Mode.TheVariants.{Plain}
 use Rattle.tok_leaves.specs.Spans.{call_site}
 use Rattle.tok_leaves.specs.declared.span.Span.{Span}
 use Rattle.tok_core.specs.Erase.{erase}
 use Rattle.tok_core.specs.Filled.{filled}
 use Rattle.tok_core.specs.Forest.{Forest}
 use Rattle.tok_core.specs.Lexical.Laws.{IsAllVisible}
-use Rattle.tok_core.specs.Lexical.Reading as grammar
 use Rattle.tok_core.specs.Weight.{weight}
-use Rattle.tok_core.specs.declared.lexer.error.LexError.{LexError}
 use Rattle.syn_parse.specs.Faults.{FailsWith}
-use Rattle.syn_parse.specs.Parsers.{OnMemory, lex_message}
+use Rattle.syn_parse.specs.Parsers.{OfText, lex_message}
 use Rattle.syn_parse.specs.Reads.{Call}
 use Rattle.syn_parse.specs.Takes.{Agree, ErrorsAgree, MemoryOr, Taking, TakesAll, TakesAs, found}
 use Rattle.syn_parse.specs.TreesAhead.{Ahead, IsFilled, whole}
@@ -126,16 +123,11 @@ abbrev pub HasOneMessage : {T : Type 0} → Takings T → Result T Fault → Typ
 HasOneMessage untold r = Unit {0}
 HasOneMessage takes r = IfErr r (λ f. MemoryOr f (Unit {0}))
 
--- The text of a source reads as a visible forest, which keeps what is stated up to this end. Or the
--- grammar rejects it, and the result fails so.
-abbrev pub KeepsTextTo : {T : Type 0} → ℕ → (end : Forest → Span)
-    → (fails : LexError → Result T Fault → Type 0) → Takings T → List ℕ → Result T Fault → Type 0
-KeepsTextTo number end fails takes text r =
-    ((f : Forest) × grammar.ReadsForest Plain number text f × IsAllVisible f
-    × KeepsWhole takes f (end f) r)
-    ⊎ (((e : LexError) × grammar.IsRejected Plain number text e × fails e r)
-    ⊎ OnMemory r)
+-- a visible forest, which keeps what is stated up to this end
+abbrev pub KeepsVisible : {T : Type 0} → Takings T → (end : Forest → Span) → Forest
+    → Result T Fault → Type 0
+KeepsVisible takes end f r = IsAllVisible f × KeepsWhole takes f (end f) r
 
--- a text as source 0, with its end at the call site
+-- a text is parsed as source 0, up to an end at the call site, and keeps what is stated
 abbrev pub KeepsText : {T : Type 0} → Takings T → List ℕ → Result T Fault → Type 0
-KeepsText = KeepsTextTo 0 (λ f. call_site) (λ e r. FailsWith (lex_message e) r)
+KeepsText takes = OfText 0 (KeepsVisible takes (λ f. call_site)) (λ e. FailsWith (lex_message e))

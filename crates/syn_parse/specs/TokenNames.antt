@@ -3,8 +3,8 @@ use Rattle.std.specs.Prelude.{Bool}
 use Rattle.tok_types.specs.Sees.{keyword_first, punctuation_first}
 use Rattle.syn_parse.specs.Owned.{sees_own}
 use Rattle.syn_parse.specs.Takes.{Taking}
-use Rattle.syn_parse.specs.Tokens.{TokenKind, any_ident, any_lifetime, ident, keyword, lifetime, literal}
-use Rattle.syn_parse.specs.Tokens.{own, punct, punctuation, sees_any_ident, sees_ident}
+use Rattle.syn_parse.specs.Tokens.{TokenKind, any_ident, any_lifetime, ident, keyword, lifetime}
+use Rattle.syn_parse.specs.Tokens.{literal, own, punct, punctuation, sees_any_ident, sees_ident}
 use Rattle.syn_parse.specs.Tokens.{sees_lifetime, sees_literal, sees_punct, take_token}
 use Rattle.syn_parse.specs.TreesAhead.{Ahead}
 

@@ -52,6 +52,7 @@ impl<'a> ParseBuffer<'a> {
     /// ```
     // Inlined: a call that only makes a call would pass each value through memory once more.
     #[inline(always)]
+    #[tactic(auto, using(crate::specs::Reads::as_does))]
     pub fn parse<T: Parse>(&mut self) -> Result<T>
         ensures reads { Does T.parses self.old result self.new }
         ensures takes { Keeps T.takes self.old result self.new }

@@ -151,6 +151,7 @@ where
 }
 
 // Creates a stream over the tokens of a source. Its end is behind the last of them.
+#[tactic(auto, using(crate::proofs::TokenEnds::tokens_end))]
 pub(crate) fn source_stream<'a>(
     alloc: Global,
     tokens: &'a TokenBuffer,
