@@ -83,6 +83,7 @@ fn run(alloc: Global, call: &str, count: usize, bytes: usize) -> Outcome {
         "commands" => replays::commands(alloc, count, bytes),
         "blank" => replays::blank(alloc, count, bytes),
         "bad" => replays::bad(alloc, count, bytes),
+        "looks" => replays::looks(alloc, count, bytes),
         _ => Err(Stop::Wrong("no such call")),
     }
 }

@@ -68,3 +68,15 @@ pub fn bad(alloc: Global, count: usize, bytes: usize) -> Outcome {
     push_times(&mut input, "\n", bytes)?;
     responded(alloc, input.as_str(), 2)
 }
+
+/// Answers `count` lookaheads, each for `bytes` targets.
+pub fn looks(alloc: Global, count: usize, bytes: usize) -> Outcome {
+    let looks = times(alloc, " End", bytes)?;
+    let mut input = times(alloc, "---\n", 1)?;
+    for _ in 0..count {
+        made(input.push_str("lookahead 0"))?;
+        made(input.push_str(looks.as_str()))?;
+        made(input.push('\n'))?;
+    }
+    responded(alloc, input.as_str(), 0)
+}
