@@ -1,8 +1,9 @@
-//! Reads Rust source files by `lex_source`.
+//! Reads Rust source files by `lex_source`, or straight into a buffer.
 //!
 //! The first word is `tokens`, which prints the tokens of each file or why it is rejected; `count`,
-//! which prints how many trees all files have; or `again`, which prints the files whose printed
-//! trees are read as other trees. The second word is an edition, and the others are files.
+//! which prints how many trees all files have; `buffer`, which prints how many files are read into
+//! a buffer; or `again`, which prints the files whose printed trees are read as other trees. The
+//! second word is an edition, and the others are files.
 #![tactic(auto)]
 
 mod show;
@@ -11,6 +12,7 @@ use anyhow::{Context, Result, bail};
 use show::push_stream;
 use std::alloc::Global;
 use std::{env, fs};
+use tok_buffer::TokenBuffer;
 use tok_core::{Edition, LexFault, TokenStreamHelper, lex_source};
 
 fn main(rt: HostRuntime) -> Result<()> {
@@ -34,6 +36,15 @@ fn main(rt: HostRuntime) -> Result<()> {
             }
             println!(rt; "{trees}")?;
         }
+        "buffer" => {
+            let mut read = 0usize;
+            for file in words {
+                let text = fs::read_to_string(&rt, file.as_str()).context("reading a file")?;
+                let buffer = TokenBuffer::from_source(rt.alloc(), 0, edition, 0, text.as_str());
+                read = read.saturating_add(usize::from(buffer.is_ok()));
+            }
+            println!(rt; "{read}")?;
+        }
         "again" => {
             for file in words {
                 let text = fs::read_to_string(&rt, file.as_str()).context("reading a file")?;
@@ -42,7 +53,7 @@ fn main(rt: HostRuntime) -> Result<()> {
                 }
             }
         }
-        _ => bail!("neither tokens, count nor again"),
+        _ => bail!("neither tokens, count, buffer nor again"),
     }
     Ok(())
 }
