@@ -1,18 +1,17 @@
 -- Trees that look alike to all that decides where a part of the grammar ends, whatever their spans
 -- and spacing; so the tokens before them are the same run.
-use Rattle.std.proofs.Common.{◌≡◌, ◌∙◌, sym, ap, subst, refl, ℕ, ◌+◌, ◌==◌, ◌&&◌, Bool, true, false}
-use Rattle.std.proofs.Common.{cond, List, [], ◌∷◌, ◌++◌, Option, Some, None}
+use Rattle.std.proofs.Common.{arith, ◌≡◌, ◌∙◌, sym, ap, subst, refl, ℕ, ◌+◌, ◌==◌, ◌&&◌, Bool, false}
+use Rattle.std.proofs.Common.{cond, List, [], ◌∷◌, Some, None}
 use Rattle.std.proofs.lemmas.Bool.{false≢true}
 use Rattle.std.specs.Prelude.{is_some}
 use Rattle.tok_lexical.specs.declared.delimiter.Delimiter.{Delimiter}
 use Rattle.tok_lexical.specs.declared.delimiter.Delimiter.TheVariants.{Brace}
 use Rattle.tok_leaves.specs.Leaves.{ident, punct}
 use Rattle.tok_leaves.specs.declared.punct.Spacing.{Spacing}
-use Rattle.tok_leaves.specs.declared.punct.Spacing.TheVariants.{Alone, Joint}
 use Rattle.tok_leaves.specs.declared.span.Span.{Span}
 use Rattle.tok_core.specs.Filled.{has_trees}
 use Rattle.tok_core.specs.Forest.{Forest, Tree, concat, group, leaf, no_trees, tree}
-use Rattle.tok_buffer.specs.EachRead.{and_first, first_if, first_puncts}
+use Rattle.tok_buffer.specs.EachRead.{first_if, first_puncts}
 use Rattle.tok_buffer.specs.Reads.{is_joint_of, is_punct_of}
 use Rattle.tok_types.specs.Sees.{any_ident_first, group_first, ident_first, keyword_first}
 use Rattle.tok_types.specs.Sees.{punct_first, punctuation_first}
@@ -39,32 +38,17 @@ pub record Alike (f g : Forest) : Type 0 where
   pub groups : (d : Delimiter) → group_first d f ≡ group_first d g
 
 pub alike_same : {f : Forest} → Alike f f
-alike_same = record {
-  some = refl;
-  signs = λ c. refl;
-  arrows = refl;
-  colons = refl;
-  shifts = refl;
-  groups = λ d. refl;
-}
+alike_same = grind arith
 
 -- words
 pub alike_words : {s t : List ℕ} {x y : Span} {f g : Forest}
     → Alike (tree (leaf (ident s x)) f) (tree (leaf (ident t y)) g)
 unfolding group_first
-alike_words = record {
-  some = refl;
-  signs = λ c. refl;
-  arrows = refl;
-  colons = refl;
-  shifts = refl;
-  groups = λ d. refl;
-}
+alike_words = grind arith
 
 -- what is taken if it is wanted
 wanted : {A : Type 0} (b : Bool) (x : A) → is_some (cond b (Some x) None) ≡ b
-wanted true x = refl
-wanted false x = refl
+wanted b x = grind arith
 
 one_tree : (w : Tree → Bool) (t : Tree) (f : Forest) → is_some (first_if w (tree t f)) ≡ w t
 one_tree w t f = wanted (w t) (t ∷ [], f)
@@ -73,55 +57,23 @@ one_tree w t f = wanted (w t) (t ∷ [], f)
 pub alike_groups : {d : Delimiter} {a b f g : Forest} {x y : Span}
     → Alike (tree (group d a x) f) (tree (group d b y) g)
 unfolding group_first
-alike_groups = record {
-  some = refl;
-  signs = λ c. refl;
-  arrows = refl;
-  colons = refl;
-  shifts = refl;
-  groups = λ e. wanted _ _ ∙ sym (wanted _ _);
-}
+alike_groups = grind (arith, wanted)
 
 -- of two characters
 second : (b c : ℕ) (t : Tree) (f : Forest)
     → seen (b ∷ (c ∷ [])) (tree t f) ≡ (is_joint_of b t && seen (c ∷ []) f)
-second b c t f = go (is_joint_of b t) where
-  found : (o : Option (List Tree × Forest))
-      → is_some {T = List Tree × Forest}
-      (elim o [ Some q ↦ Some ((t ∷ []) ++ q.0, q.1) | None ↦ None ]) ≡ is_some o
-  found None = refl
-  found (Some q) = refl
-
-  go : (joint : Bool)
-      → is_some (and_first (cond joint (Some (t ∷ [], f)) None) (first_puncts (c ∷ [])))
-      ≡ (joint && seen (c ∷ []) f)
-  go false = refl
-  go true = found (first_puncts (c ∷ []) f)
+second b c t f = grind arith
 
 -- signs of one character, with which no token of two begins
 not_joint : (c d : ℕ) (s : Spacing) (x : Span) → (c == d) ≡ false
     → is_joint_of d (leaf (punct c s x)) ≡ false
-not_joint c d Alone x e = refl
-not_joint c d Joint x e = simp (e) refl
+not_joint c d s x e = grind arith
 
 pub alike_signs : {c : ℕ} {s t : Spacing} {x y : Span} {f g : Forest} → (c == 45) ≡ false
     → (c == 58) ≡ false → (c == 60) ≡ false
     → Alike (tree (leaf (punct c s x)) f) (tree (leaf (punct c t y)) g)
 unfolding group_first
-alike_signs {c} {s} {t} {x} {y} {f} {g} h k l = record {
-  some = refl;
-  signs = λ d.
-      one_tree (is_punct_of d) (leaf (punct c s x)) f
-      ∙ sym (one_tree (is_punct_of d) (leaf (punct c t y)) g);
-  arrows = none 45 62 s x f h ∙ sym (none 45 62 t y g h);
-  colons = none 58 58 s x f k ∙ sym (none 58 58 t y g k);
-  shifts = none 60 60 s x f l ∙ sym (none 60 60 t y g l);
-  groups = λ d. refl;
-} where
-  none : (a b : ℕ) (s : Spacing) (x : Span) (f : Forest) → (c == a) ≡ false
-      → seen (a ∷ (b ∷ [])) (tree (leaf (punct c s x)) f) ≡ false
-  none a b s x f e =
-      second a b (leaf (punct c s x)) f ∙ ap (λ j. j && seen (b ∷ []) f) (not_joint c a s x e)
+alike_signs {c} {s} {t} {x} {y} {f} {g} h k l = grind (arith, one_tree, second, not_joint)
 
 -- after the same tree
 pub alike_next : (t : Tree) {f g : Forest} → Alike f g → Alike (tree t f) (tree t g)
@@ -188,11 +140,10 @@ last_alike t f g = simp one_tree refl
 
 gt_alike : (t : Tree) (f g : Forest) → gt_first (tree t f) ≡ gt_first (tree t g)
 unfolding punctuation_first
-gt_alike t f g = one_tree (is_punct_of 62) t f ∙ sym (one_tree (is_punct_of 62) t g)
+gt_alike t f g = grind (arith, one_tree)
 
 no_more : {f g : Forest} → f ≡ no_trees → Alike f g → g ≡ no_trees
-no_more {g = no_trees} e a = refl
-no_more {g = tree t g} e a = absurd (false≢true (sym (ap has_trees e) ∙ a.some))
+no_more e a = grind (arith, false≢true)
 
 end_alike : {f g : Forest} (u : Until) (last : Last) → Alike f g → IsEnd u last f → IsEnd u last g
 end_alike u last a of_all = subst (IsEnd u last) (sym (no_more refl a)) of_all

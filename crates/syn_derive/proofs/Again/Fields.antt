@@ -1,11 +1,11 @@
 -- Fields and variants are parsed again as they are written.
-use Rattle.std.proofs.Common.{refl, List, Option, None, Some}
+use Rattle.std.proofs.Common.{arith, refl, List, Option, None, Some}
 use Rattle.std.proofs.lemmas.Bool.{false≢true}
 use Rattle.tok_lexical.specs.declared.delimiter.Delimiter.{Delimiter}
 use Rattle.tok_lexical.specs.declared.delimiter.Delimiter.TheVariants.{Brace, Parenthesis}
 use Rattle.tok_leaves.specs.declared.ident.Ident.{Ident}
 use Rattle.tok_leaves.specs.declared.span.DelimSpan.{DelimSpan}
-use Rattle.tok_core.specs.Forest.{Forest, concat, no_trees, tree}
+use Rattle.tok_core.specs.Forest.{Forest, concat}
 use Rattle.syn_parse.specs.TokenNames.{Colon, Comma, Eq, Token}
 use Rattle.syn_punctuated.specs.Parts.{InGroup, IsIdentifier, Optional, Part, absent, identifier}
 use Rattle.syn_punctuated.specs.Parts.{in_group, present}
@@ -46,8 +46,7 @@ type_again : Again (IsRun IsType) (λ f h. concat f h)
 type_again = run_again (λ m f g r a. (tokens_alike 0 Ty Operator m f g r.0 a, r.1))
 
 type_first : {f g v : Forest} → IsRun IsType f v g → (h : Forest) → SameFirst f (concat v h)
-type_first (run {trees = no_trees} r) h = absurd (false≢true r.1)
-type_first (run {trees = tree t m} r) h = first_same
+type_first k h = grind (arith, false≢true, first_same)
 
 type_alike : {f g h v : Forest} → IsRun IsType f v g → Alike g h → Alike f (concat v h)
 type_alike (run {trees} r) a = alike_after trees a

@@ -1,6 +1,6 @@
 -- Structs, enums, unions and derive inputs are parsed again as they are written, but for parameters
 -- and `where` clauses that have nothing in them.
-use Rattle.std.proofs.Common.{refl, Bool, true, false, Option, None, Some}
+use Rattle.std.proofs.Common.{arith, refl, Bool, true, false, Option, None, Some}
 use Rattle.std.specs.Prelude.{if◌then◌else◌}
 use Rattle.tok_lexical.specs.declared.delimiter.Delimiter.{Delimiter}
 use Rattle.tok_lexical.specs.declared.delimiter.Delimiter.TheVariants.{Brace, Parenthesis}
@@ -83,9 +83,7 @@ clause_again false (present (where_clause w p)) a n = absent n
 clause_not_lt : {h : Forest} (written : Bool) (c : Option WhereForm) → No IsLt h
     → No IsLt (clause_onto written c h)
 unfolding punctuation_first
-clause_not_lt written None n = n
-clause_not_lt true (Some w) n = not_next lt_tells refl
-clause_not_lt false (Some w) n = n
+clause_not_lt written c n = grind (arith, not_next, lt_tells)
 
 -- Braces, parentheses and `;` are after parameters and a clause.
 record Closes (f h : Forest) : Type 0 where
@@ -96,20 +94,12 @@ record Closes (f h : Forest) : Type 0 where
 group_closes : {A : Type 0} {Is : Part A} {d : Delimiter} {f g h : Forest} {x : DelimSpan × A}
     (onto : Onto A) → InGroup d Is f x g → Closes f (group_onto d onto x h)
 unfolding punctuation_first keyword_first
-group_closes onto i = record {
-  same = group_alike onto i;
-  not_lt = not_next lt_tells refl;
-  not_where = not_next where_tells refl;
-}
+group_closes onto i = search (group_alike, not_next, lt_tells, where_tells)
 
 semi_closes : {f g : Forest} {v : Token Semi} → IsSemi f v g → (h : Forest)
     → Closes f (sign_onto v h)
 unfolding punctuation_first keyword_first
-semi_closes (sign last) h = record {
-  same = alike_signs refl refl refl;
-  not_lt = not_next lt_tells refl;
-  not_where = not_next where_tells refl;
-}
+semi_closes (sign last) h = search (alike_signs, not_next, lt_tells, where_tells)
 
 -- what comes after the parameters of a struct, and after the name of an item
 abbrev pub struct_onto : (clause : Bool) → Option WhereForm → FieldsForm → Option (Token Semi)
@@ -182,9 +172,8 @@ module _ (ps cs : Bool) where
 
   item_again : {f g : Forest} {v : ItemForm} → IsItem f v g → (h : Forest)
       → IsItem (item_onto ps cs v h) (item_of ps cs v) h
-  item_again (struct_item i) h = struct_item (struct_again i h)
-  item_again (enum_item i) h = enum_item (enum_again i h)
-  item_again (union_item i) h = union_item (union_again i h)
+  item_again k h =
+      grind (arith, struct_item, struct_again, enum_item, enum_again, union_item, union_again)
 
   -- an item begins with the same word
   item_first : {f g : Forest} {v : ItemForm} → IsItem f v g → (h : Forest)

@@ -1,5 +1,5 @@
 -- Paths, what attributes hold, attributes and visibilities are parsed again as they are written.
-use Rattle.std.proofs.Common.{refl, List, Option, None, Some}
+use Rattle.std.proofs.Common.{arith, refl, List, Option, None, Some}
 use Rattle.tok_lexical.specs.declared.delimiter.Delimiter.TheVariants.{Brace, Bracket, Parenthesis}
 use Rattle.tok_leaves.specs.Leaves.{literal_of}
 use Rattle.tok_leaves.specs.declared.literal.Literal.{Literal}
@@ -8,7 +8,7 @@ use Rattle.tok_types.specs.Sees.{punctuation_first}
 use Rattle.syn_parse.specs.TokenNames.{Comma, Eq, In, PathSep, Pound, Pub, Token}
 use Rattle.syn_punctuated.proofs.Exactly.{not_next}
 use Rattle.syn_punctuated.specs.Parts.{No, Optional, Part, Separated, absent}
-use Rattle.syn_punctuated.specs.Parts.{and_others, any_ident, identifier, in_group, last, one}
+use Rattle.syn_punctuated.specs.Parts.{any_ident, identifier, in_group, last}
 use Rattle.syn_punctuated.specs.Parts.{present, sign, word}
 use Rattle.syn_derive.specs.Attributes.{AttributeForm}
 use Rattle.syn_derive.specs.Grammar.{AreAttributes, IsAnySegment, IsAssigned, IsAttr, IsAttrInput}
@@ -58,10 +58,7 @@ segment_again = record { always = λ i h. go i h } where
   go (word_segment w) h = word_segment w
 
 any_segment_again : Always IsAnySegment segment_onto
-any_segment_again = record { always = λ i h. go i h } where
-  go : {f g : Forest} {v : PathSegment} → IsAnySegment f v g → (h : Forest)
-      → IsAnySegment (segment_onto v h) v h
-  go (any_word any_ident) h = any_word any_ident
+any_segment_again = grind (arith, any_word, any_ident)
 
 -- paths
 abbrev Segments : Type 0
@@ -89,9 +86,8 @@ module _ {Is : Part PathSegment} (e : Always Is segment_onto) where
       → Optional IsPathSep IsPathSep (optional_onto sign_onto colon (segments_onto s h)) colon
       (segments_onto s h)
   unfolding punctuation_first
-  colon_again h (present p) r = present (path_sep_again.always p _)
-  colon_again h (absent n) (one i m) = absent (not_next path_sep_tells refl)
-  colon_again h (absent n) (and_others i p r) = absent (not_next path_sep_tells refl)
+  colon_again h k r =
+      grind (arith, present, path_sep_again.always, absent, not_next, path_sep_tells)
 
 pub path_again : Again IsPath path_onto
 path_again = record { again = λ i a. go i a } where
@@ -135,9 +131,7 @@ delimiters_again = record { always = λ i h. go i h } where
   go (in_braces i) h = in_braces ((group_again Brace rest_again).always i h)
 
 delimiters_decided : Decided IsDelimTokenTree
-delimiters_decided =
-    decided delimiters_tell
-    (λ f g a. simp (a.groups Parenthesis, a.groups Bracket, a.groups Brace) refl)
+delimiters_decided = grind (arith, decided, delimiters_tell)
 
 assigned_again : Again IsAssigned args_onto
 assigned_again = record { again = λ i a. go i a } where
@@ -174,11 +168,7 @@ abbrev pub meta_onto : Onto MetaForm
 meta_onto m h = path_onto m.0 (args_onto m.1 h)
 
 attr_path_again : Again IsAttrPath path_onto
-attr_path_again = record { again = λ i a. go i a } where
-  go : {f g h : Forest} {v : PathForm} → IsAttrPath f v g → Alike g h
-      → IsAttrPath (path_onto v h) v h
-  go (attr_path p) a = attr_path (path_again.again p a)
-  go unsafe_path a = unsafe_path
+attr_path_again = grind (arith, attr_path, path_again.again, unsafe_path)
 
 pub meta_again : Again IsAttr meta_onto
 meta_again = record { again = λ i a. go i a } where
@@ -214,11 +204,7 @@ item_onto (of_literal l) h = literal_onto l h
 item_onto (of_meta m) h = meta_onto m h
 
 pub meta_item_again : Again IsMetaItemInner item_onto
-meta_item_again = record { again = λ i a. go i a } where
-  go : {f g h : Forest} {v : NestedForm} → IsMetaItemInner f v g → Alike g h
-      → IsMetaItemInner (item_onto v h) v h
-  go inner_literal a = inner_literal
-  go (inner_meta m) a = inner_meta (nested_meta_again.again m a)
+meta_item_again = grind (arith, inner_literal, inner_meta, nested_meta_again.again)
 
 pub comma_again : Always IsComma sign_onto
 comma_again = sign_again 7 1 refl
@@ -266,9 +252,7 @@ pub data SameFirst : Forest → Forest → Type 0 where
   first_same : {t : Tree} {f g : Forest} → SameFirst (tree t f) (tree t g)
 
 restricted_first : {f g : Forest} → SameFirst f g → IsRestricted g → IsRestricted f
-restricted_first all_same r = r
-restricted_first first_same (by_word w) = by_word w
-restricted_first first_same (by_in i) = by_in i
+restricted_first h r = grind (arith, by_word, by_in)
 
 same_word : {t : Tree} {f g h : Forest} {v : Token Pub} → IsPubToken (tree t g) v h
     → IsPubToken (tree t f) v f

@@ -1,6 +1,6 @@
 -- Tokens, groups and lists are parsed again as they are written, before any trees or before those
 -- that look alike.
-use Rattle.std.proofs.Common.{◌≡◌, ◌∙◌, sym, ap, refl, ℕ, Bool, true, eq-eqb, suc}
+use Rattle.std.proofs.Common.{arith, ◌≡◌, ◌∙◌, sym, ap, refl, ℕ, Bool, true, eq-eqb, suc}
 use Rattle.std.proofs.Common.{List, [], ◌∷◌, length}
 use Rattle.std.specs.List.{list_all}
 use Rattle.tok_lexical.specs.Characters.{is_punct_or_apostrophe}
@@ -81,10 +81,7 @@ ident_again = record { always = λ i h. go i h } where
 
 pub word_again : (k c : ℕ) (cs : List ℕ) → keyword_text k ≡ c ∷ cs
     → Always (IsWord {k = k} (keyword_text k)) word_onto
-word_again k c cs e = record { always = λ i h. go i h } where
-  go : {f g : Forest} {v : Keyword k} → IsWord (keyword_text k) f v g → (h : Forest)
-      → IsWord (keyword_text k) (word_onto v h) v h
-  go word h = rw e word
+word_again k c cs e = grind (arith, word)
 
 puncts_again : {cs : List ℕ} {f g : Forest} {spans : List Span} → ArePuncts cs f spans g
     → (h : Forest) → (length cs ≡ length spans)
@@ -118,10 +115,7 @@ turns_onto onto between x h = in_turn onto between x.0 x.1 h
 
 module _ {A : Type 0} {Is : Part A} {onto : Onto A} where
   pub group_again : (d : Delimiter) → AtEnd Is onto → Always (InGroup d Is) (group_onto d onto)
-  group_again d e = record { always = λ i h. go i h } where
-    go : {f g : Forest} {x : DelimSpan × A} → InGroup d Is f x g → (h : Forest)
-        → InGroup d Is (group_onto d onto x h) x h
-    go (in_group i) h = in_group (e.at_end i)
+  group_again d e = grind (arith, in_group)
 
   pub many_again : {B : Type 0} {First : Part B} → Decided First → Always Is onto
       → Again (Many First Is) (all_onto onto)
@@ -151,13 +145,9 @@ module _ {A : Type 0} {Is : Part A} {onto : Onto A} where
 
 -- all that is left, and tokens of a run
 pub rest_again : AtEnd IsRest (λ f h. f)
-rest_again = record { at_end = λ r. go r } where
-  go : {f v : Forest} → IsRest f v no_trees → IsRest v v no_trees
-  go rest = rest
+rest_again = grind (arith, rest)
 
 pub run_again : {Are : Forest → Forest → Type 0}
     → ((more f g : Forest) → Are more f → Alike f g → Are more g)
     → Again (IsRun Are) (λ f h. concat f h)
-run_again {Are} on = record { again = λ r a. go r a } where
-  go : {f g h v : Forest} → IsRun Are f v g → Alike g h → IsRun Are (concat v h) v h
-  go (run r) a = run (on _ _ _ r a)
+run_again {Are} on = grind (arith, run)

@@ -1,5 +1,5 @@
 -- What is written of a value that the grammar has is that value again.
-use Rattle.std.proofs.Common.{◌≡◌, ◌∙◌, sym, subst, refl, Option, None, Some, Ok, Err}
+use Rattle.std.proofs.Common.{arith, ◌≡◌, ◌∙◌, sym, subst, Option, Ok, Err}
 use Rattle.std.specs.Prelude.{MatchResult, Result, option_map}
 use Rattle.tok_core.specs.Erase.{erase}
 use Rattle.tok_core.specs.Filled.{has_trees}
@@ -40,7 +40,6 @@ use Rattle.syn_derive.proofs.Again.Metas.{meta_item_again, meta_list_again, meta
 use Rattle.syn_derive.proofs.Again.Metas.{name_value_again, nested_meta_again, path_again}
 use Rattle.syn_derive.proofs.Again.Metas.{path_onto}
 use Rattle.syn_derive.proofs.Again.Metas.{visibility_again}
-use Rattle.syn_derive.proofs.Again.Metas.{visibility_onto}
 use Rattle.syn_derive.proofs.Again.Parts.{Again, Onto}
 use Rattle.syn_derive.proofs.Again.Written as written
 use Rattle.syn_derive.proofs.Again.Written.{Puts, all_fields, attribute, field, has_predicates}
@@ -52,7 +51,7 @@ module _ {V A : Type 0} {Is : Part A} {trees : V → Forest} (form : V → A) (o
     (each : (v : V) → Puts (trees v) (onto (form v))) where
   parsed : ((f g : Forest) (v : A) → Is f v g → Is (onto v g) v g)
       → ParsedAgain Is form trees
-  parsed i f g v h = subst (λ t. Is t (form v) g) (sym ((each v).puts g)) (i f g (form v) h)
+  parsed i f g v h = grind arith
 
   parsed_again : Again Is onto → ParsedAgain Is form trees
   parsed_again e = parsed (λ f g v i. e.again i alike_same)
@@ -61,9 +60,7 @@ pub paths : ParsedAgain IsPath path_form path_trees
 paths = parsed_again path_form path_onto path path_again
 
 pub visibilities : ParsedAgain IsVisibility visibility_form visibility_trees
-visibilities =
-    parsed {Is = IsVisibility} visibility_form visibility_onto visibility
-    (λ f g v i. visibility_again i all_same)
+visibilities = grind (arith, parsed, visibility, visibility_again, all_same)
 
 pub attributes_hold : ParsedAgain IsAttr meta_form meta_trees
 attributes_hold = parsed_again meta_form meta_onto metas meta_again
@@ -100,8 +97,7 @@ variants = parsed_again variant_form variant_onto variant variant_again
 -- derive inputs
 clause_same : (c : Option WhereClause)
     → clause_of (has_predicates c) (option_map where_form c) ≡ again_clause c
-clause_same None = refl
-clause_same (Some w) = refl
+clause_same c = grind arith
 
 pub inputs : ParsedAnywhere IsDeriveInput input_form again_form input_trees
 inputs f g h i is =

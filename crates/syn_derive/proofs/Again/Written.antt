@@ -1,5 +1,5 @@
 -- The visible trees that a value is written as, by its form.
-use Rattle.std.proofs.Common.{◌≡◌, ◌∙◌, sym, ap, refl, ℕ, Bool, true, false, cond, List, [], ◌∷◌}
+use Rattle.std.proofs.Common.{arith, ◌≡◌, ap, refl, ℕ, Bool, true, false, List, [], ◌∷◌}
 use Rattle.std.proofs.Common.{map}
 use Rattle.std.proofs.Common.{Option, None, Some}
 use Rattle.std.specs.Global.{Vec}
@@ -16,7 +16,6 @@ use Rattle.tok_core.specs.Laws.{followed_by, optional_trees}
 use Rattle.tok_core.proofs.Erasures.{erase_concat}
 use Rattle.tok_core.proofs.Facts.{concat-none, joined_assoc}
 use Rattle.tok_types.specs.Printed as printed
-use Rattle.tok_types.specs.Texts.{keyword_text, punctuation_word}
 use Rattle.tok_types.specs.declared.keyword.Keyword.{Keyword}
 use Rattle.tok_types.specs.declared.punctuation.Punctuation.{Punctuation}
 use Rattle.syn_parse.specs.TokenNames.{Colon, Comma, Eq, Token}
@@ -52,7 +51,6 @@ use Rattle.syn_derive.specs.declared.derive.DeriveInput.{DeriveInput}
 use Rattle.syn_derive.specs.declared.generics.Generics.{Generics}
 use Rattle.syn_derive.specs.declared.generics.WhereClause.{WhereClause}
 use Rattle.syn_derive.specs.declared.meta.MacroDelimiter.{MacroDelimiter}
-use Rattle.syn_derive.specs.declared.meta.MacroDelimiter.TheVariants as by
 use Rattle.syn_derive.specs.declared.meta.Meta.{Meta}
 use Rattle.syn_derive.specs.declared.meta.Meta.TheVariants as meta
 use Rattle.syn_derive.specs.declared.meta.MetaList.{MetaList}
@@ -81,11 +79,7 @@ pub record Puts (trees : Forest) (onto : Forest → Forest) : Type 0 where
 
 joined : {a b : Forest} {x y : Forest → Forest} → Puts a x → Puts b y
     → Puts (concat a b) (λ h. x (y h))
-joined {a} {b} {x} {y} p q = record {
-  puts = λ h.
-      ap (λ f. concat f h) (erase_concat a b) ∙ joined_assoc (erase a) (erase b) h
-      ∙ p.puts (concat (erase b) h) ∙ ap x (q.puts h);
-}
+joined {a} {b} {x} {y} p q = grind (arith, erase_concat, joined_assoc)
 
 both : {a b : Forest} {x y : Forest → Forest} → Puts a x → Puts b y
     → Puts (followed_by a b) (λ h. x (y h))
@@ -108,18 +102,10 @@ all_leaves (c ∷ (d ∷ cs)) [] = refl
 all_leaves (c ∷ (d ∷ cs)) (s ∷ ss) = ap (tree (leaf (punct c Joint s))) (all_leaves (d ∷ cs) ss)
 
 signs : {k n : ℕ} (s : Punctuation k n) → Puts (sign_trees s) (sign_onto s)
-signs {k} {n} s = record { puts = λ h. ap (λ f. concat f h) (go _) } where
-  go : (b : Bool) → erase (cond b (forest (printed.joint_puncts (punctuation_word k n) s.spans))
-      no_trees)
-      ≡ cond b (forest (printed.joint_puncts (punctuation_word k n) s.spans)) no_trees
-  go true = all_leaves (punctuation_word k n) s.spans
-  go false = refl
+signs {k} {n} s = grind (arith, all_leaves)
 
 words : {k : ℕ} (w : Keyword k) → Puts (keyword_trees w) (word_onto w)
-words {k} w = record { puts = λ h. ap (λ f. concat f h) (go (keyword_text k)) } where
-  go : (text : List ℕ) → erase (printed.word text w.span) ≡ printed.word text w.span
-  go [] = refl
-  go (c ∷ cs) = refl
+words {k} w = grind arith
 
 idents : (i : Ident) → Puts (ident_trees i) (ident_onto i)
 idents i = record { puts = λ h. refl }
@@ -131,25 +117,24 @@ or_default {k} None = signs (given {k = k} None)
 
 optional : {V : Type 0} {trees : V → Forest} {onto : Onto V} → ((v : V) → Puts (trees v) (onto v))
     → (o : Option V) → Puts (optional_trees trees o) (optional_onto onto o)
-optional each None = none
-optional each (Some v) = each v
+optional each o = grind (arith, none)
 
 -- groups
 inside : {f : Forest} {x : Forest → Forest} → Puts f x → erase f ≡ x no_trees
-inside {f} p = sym (concat-none (erase f)) ∙ p.puts no_trees
+inside {f} p = grind (arith, concat-none)
 
 in_braces : {f : Forest} {x : Forest → Forest} (s : Span) → Puts f x
     → Puts (tree (group Brace f s) no_trees) (λ h. tree (group Brace (x no_trees) s) h)
-in_braces s p = record { puts = λ h. ap (λ f. tree (group Brace f s) h) (inside p) }
+in_braces s p = grind (arith, inside)
 
 in_brackets : {f : Forest} {x : Forest → Forest} (s : Span) → Puts f x
     → Puts (tree (group Bracket f s) no_trees) (λ h. tree (group Bracket (x no_trees) s) h)
-in_brackets s p = record { puts = λ h. ap (λ f. tree (group Bracket f s) h) (inside p) }
+in_brackets s p = grind (arith, inside)
 
 in_parentheses : {f : Forest} {x : Forest → Forest} (s : Span) → Puts f x
     → Puts (tree (group Parenthesis f s) no_trees)
     (λ h. tree (group Parenthesis (x no_trees) s) h)
-in_parentheses s p = record { puts = λ h. ap (λ f. tree (group Parenthesis f s) h) (inside p) }
+in_parentheses s p = grind (arith, inside)
 
 -- lists
 module _ {V A : Type 0} {trees : V → Forest} {form : V → A} (onto : Onto A)
@@ -176,9 +161,7 @@ path p =
 
 arguments : (d : MacroDelimiter) (f : Forest)
     → Puts (delimited_trees d f) (args_onto (delimited_by d (erase f)))
-arguments (by.Paren t) f = record { puts = λ h. refl }
-arguments (by.Brace t) f = record { puts = λ h. refl }
-arguments (by.Bracket t) f = record { puts = λ h. refl }
+arguments d f = grind arith
 
 pub meta_lists : (l : MetaList) → Puts (meta_list_trees l) (meta_onto (meta_list_form l))
 meta_lists l = both (path l.path) (arguments l.delimiter l.tokens)
@@ -284,9 +267,7 @@ body g (kind.Union d) =
     both (params g) (both (clause g.where_clause) (in_braces _ (list d.fields.named)))
 
 first_word : (d : Data) → Puts (word_trees d) (data_onto (data_form d))
-first_word (kind.Struct d) = words d.struct_token
-first_word (kind.Enum d) = words d.enum_token
-first_word (kind.Union d) = words d.union_token
+first_word d = grind (arith, words)
 
 pub input : (i : DeriveInput) → Puts (input_trees i)
     (input_onto (has_trees i.generics.params) (has_predicates i.generics.where_clause)

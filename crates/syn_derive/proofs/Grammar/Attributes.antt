@@ -1,5 +1,5 @@
 -- Attributes are taken exactly.
-use Rattle.std.proofs.Common.{◌≡◌, refl, true, false, inl, inr}
+use Rattle.std.proofs.Common.{arith, ◌≡◌, refl, true, false, inl, inr}
 use Rattle.std.proofs.lemmas.Bool.{or_cases}
 use Rattle.std.specs.Prelude.{codes}
 use Rattle.tok_lexical.specs.declared.delimiter.Delimiter.{Delimiter}
@@ -55,9 +55,7 @@ all_in d = group_exactly d rest_exactly
 group_is : {f g : Forest} {v : MetaInput} → IsDelimTokenTree f v g
     → sees Eq (only_trees f) ≡ false
 unfolding punctuation_first
-group_is (in_parentheses (in_group i)) = refl
-group_is (in_brackets (in_group i)) = refl
-group_is (in_braces (in_group i)) = refl
+group_is h = grind arith
 
 not_parentheses : {f g : Forest} {v : DelimSpan × Forest} → IsGroup Bracket f v g
     → sees_group Parenthesis (only_trees f) ≡ false
@@ -91,9 +89,7 @@ delimiters =
 delimited_first : {f g : Forest} {v : MetaInput} → IsDelimTokenTree f v g
     → sees_delimiters (only_trees f) ≡ true
 unfolding group_first
-delimited_first (in_parentheses (in_group i)) = refl
-delimited_first (in_brackets (in_group i)) = refl
-delimited_first (in_braces (in_group i)) = refl
+delimited_first h = grind arith
 
 pub delimiters_tell : Tells IsDelimTokenTree sees_delimiters
 delimiters_tell = record { next = to; seen = delimited_first } where
@@ -112,9 +108,8 @@ delimiters_tell = record { next = to; seen = delimited_first } where
 value_after : Exactly IsAssigned take_assigned
 unfolding take_assigned
 value_after =
-    exactly (then eq_sign (λ e. then expression (λ v. ends (λ _ _ v _ e. equals e v)))) go where
-      go : Written IsAssigned take_assigned
-      go _ _ _ (equals e v) = simp (takes eq_sign e, takes expression v) refl
+    exactly (then eq_sign (λ e. then expression (λ v. ends (λ _ _ v _ e. equals e v))))
+    (λ f g v i. grind (arith, takes, eq_sign, expression))
 
 value_first : {f g : Forest} {v : MetaInput} → IsAssigned f v g → sees Eq (only_trees f) ≡ true
 value_first (equals e v) = eq_tells.seen e
@@ -170,25 +165,22 @@ pub meta : Exactly IsAttr take_meta
 unfolding take_meta take_meta_after
 meta =
     exactly
-    (then meta_path (λ p. then meta_input (λ i. ends (λ _ _ i _ p. attr p i)))) go where
-      go : Written IsAttr take_meta
-      go _ _ _ (attr p i) = simp (takes meta_path p, takes meta_input i) refl
+    (then meta_path (λ p. then meta_input (λ i. ends (λ _ _ i _ p. attr p i))))
+    (λ f g v i. grind (arith, takes, meta_path, meta_input))
 
 pub meta_list : Exactly IsAttrList take_meta_list
 unfolding take_meta_list
 meta_list =
     exactly
-    (then meta_path (λ p. then delimiters (λ i. ends (λ _ _ i _ p. attr_list p i)))) go where
-      go : Written IsAttrList take_meta_list
-      go _ _ _ (attr_list p i) = simp (takes meta_path p, takes delimiters i) refl
+    (then meta_path (λ p. then delimiters (λ i. ends (λ _ _ i _ p. attr_list p i))))
+    (λ f g v i. grind (arith, takes, meta_path, delimiters))
 
 pub name_value : Exactly IsAttrValue take_name_value
 unfolding take_name_value
 name_value =
     exactly
-    (then meta_path (λ p. then value_after (λ i. ends (λ _ _ i _ p. attr_value p i)))) go where
-      go : Written IsAttrValue take_name_value
-      go _ _ _ (attr_value p i) = simp (takes meta_path p, takes value_after i) refl
+    (then meta_path (λ p. then value_after (λ i. ends (λ _ _ i _ p. attr_value p i))))
+    (λ f g v i. grind (arith, takes, meta_path, value_after))
 
 pound_sign : Exactly IsPound (take Pound)
 pound_sign = sign_exactly Pound refl
@@ -204,9 +196,8 @@ unfolding take_attribute
 attribute =
     exactly
     (then pound_sign (λ p. then in_brackets_exactly
-    (λ m. ends (λ _ _ m _ p. outer_attribute p m)))) go where
-      go : Written IsAttribute take_attribute
-      go _ _ _ (outer_attribute p m) = simp (takes pound_sign p, takes in_brackets_exactly m) refl
+    (λ m. ends (λ _ _ m _ p. outer_attribute p m))))
+    (λ f g v i. grind (arith, takes, pound_sign, in_brackets_exactly))
 
 attribute_first : {f g : Forest} {v : AttributeForm} → IsAttribute f v g
     → sees Pound (only_trees f) ≡ true
@@ -221,9 +212,8 @@ pub nested_meta : Exactly IsNestedMeta take_nested_meta
 unfolding take_nested_meta take_meta_after
 nested_meta =
     exactly
-    (then nested_path (λ p. then meta_input (λ i. ends (λ _ _ i _ p. meta_item p i)))) go where
-      go : Written IsNestedMeta take_nested_meta
-      go _ _ _ (meta_item p i) = simp (takes nested_path p, takes meta_input i) refl
+    (then nested_path (λ p. then meta_input (λ i. ends (λ _ _ i _ p. meta_item p i))))
+    (λ f g v i. grind (arith, takes, nested_path, meta_input))
 
 -- such a path has a first token
 pub meta_left : {f g : Forest} {v : MetaForm} → IsNestedMeta f v g → is_left (only_trees f) ≡ true

@@ -1,5 +1,5 @@
 -- Fields and variants are taken exactly.
-use Rattle.std.proofs.Common.{◌≡◌, refl, true, false}
+use Rattle.std.proofs.Common.{arith, ◌≡◌, refl, true, false}
 use Rattle.tok_lexical.specs.declared.delimiter.Delimiter.TheVariants.{Brace, Parenthesis}
 use Rattle.tok_leaves.specs.declared.span.DelimSpan.{DelimSpan}
 use Rattle.tok_core.specs.Forest.{Forest}
@@ -34,30 +34,23 @@ use Rattle.syn_derive.proofs.Grammar.Visibilities.{visibility}
 colon_sign : Exactly IsColon (take Colon)
 colon_sign = sign_exactly Colon refl
 
+-- what a field and a variant begin with
+ruleset parts = (attributes, visibility)
+
 pub named_field : Exactly IsStructField take_named_field
 unfolding take_named_field
 named_field =
     exactly
     (then attributes (λ a. then visibility (λ v. then identifier_exactly (λ n. then colon_sign
-    (λ c. then type_run (λ t. ends (λ _ _ t _ c _ n _ v _ a. struct_field a v n c t))))))) go where
-      go : Written IsStructField take_named_field
-      go _ _ _ (struct_field a v n c t) =
-          simp (
-            takes attributes a,
-            takes visibility v,
-            takes identifier_exactly n,
-            takes colon_sign c,
-            takes type_run t,
-          ) refl
+    (λ c. then type_run (λ t. ends (λ _ _ t _ c _ n _ v _ a. struct_field a v n c t)))))))
+    (λ f g v i. grind (arith, takes, parts, identifier_exactly, colon_sign, type_run))
 
 pub unnamed_field : Exactly IsTupleField take_unnamed_field
 unfolding take_unnamed_field
 unnamed_field =
     exactly (then attributes (λ a. then visibility (λ v. then type_run
-    (λ t. ends (λ _ _ t _ v _ a. tuple_field a v t))))) go where
-      go : Written IsTupleField take_unnamed_field
-      go _ _ _ (tuple_field a v t) =
-          simp (takes attributes a, takes visibility v, takes type_run t) refl
+    (λ t. ends (λ _ _ t _ v _ a. tuple_field a v t)))))
+    (λ f g v i. grind (arith, takes, parts, type_run))
 
 lowers_named_field : Lowers take_named_field
 unfolding take_named_field
@@ -137,16 +130,8 @@ variant =
     exactly
     (then attributes (λ a. then visibility (λ v. then identifier_exactly (λ n.
     then variant_fields (λ w. then value_after
-    (λ d. ends (λ _ _ d _ w _ n _ v _ a. enum_variant a v n w d))))))) go where
-      go : Written IsEnumVariant take_variant
-      go _ _ _ (enum_variant a v n w d) =
-          simp (
-            takes attributes a,
-            takes visibility v,
-            takes identifier_exactly n,
-            takes variant_fields w,
-            takes value_after d,
-          ) refl
+    (λ d. ends (λ _ _ d _ w _ n _ v _ a. enum_variant a v n w d)))))))
+    (λ f g v i. grind (arith, takes, parts, identifier_exactly, variant_fields, value_after))
 
 lowers_variant : Lowers take_variant
 unfolding take_variant

@@ -1,5 +1,5 @@
 -- Structs, enums, unions and derive inputs are taken exactly.
-use Rattle.std.proofs.Common.{◌≡◌, refl, true, false, Option, Ok, Err}
+use Rattle.std.proofs.Common.{arith, ◌≡◌, refl, true, false, Option, Ok, Err}
 use Rattle.std.specs.Prelude.{Result}
 use Rattle.tok_lexical.specs.declared.delimiter.Delimiter.TheVariants.{Brace, Parenthesis}
 use Rattle.tok_leaves.specs.declared.ident.Ident.{Ident}
@@ -15,7 +15,7 @@ use Rattle.syn_parse.specs.TreesAhead.{only_trees}
 use Rattle.syn_parse.specs.declared.fault.Fault.{Fault}
 use Rattle.syn_parse.specs.declared.fault.Fault.TheVariants.{Memory, Refused}
 use Rattle.syn_punctuated.specs.TakeLists.{take_terminated}
-use Rattle.syn_punctuated.proofs.Exactly.{Exactly, Sound, Tells, Written, after, either, ends}
+use Rattle.syn_punctuated.proofs.Exactly.{Exactly, Sound, Tells, after, either, ends}
 use Rattle.syn_punctuated.proofs.Exactly.{exactly, group_exactly, has_grammar, not_next}
 use Rattle.syn_punctuated.proofs.Exactly.{optional_exactly, refused, so, takes, then, unseen}
 use Rattle.syn_punctuated.specs.Parts.{InGroup, IsIdentifier, Part, absent, last, present, sign}
@@ -59,11 +59,9 @@ unfolding take_params
 params =
     exactly (either (sees Lt) (then lt_sign (λ l. then plain_params (λ p. then gt_sign
     (λ g. ends (λ _ _ g _ p _ l t. generic_params l p g)))))
-    (ends (λ _ t. no_params (not_next lt_tells t)))) go where
-      go : Written AreGenericParams take_params
-      go _ _ _ (generic_params l p g) =
-          simp (lt_tells.seen l, takes lt_sign l, takes plain_params p, takes gt_sign g) refl
-      go _ _ _ (no_params n) = simp (unseen lt_tells n) refl
+    (ends (λ _ t. no_params (not_next lt_tells t))))
+    (λ f g v i.
+    grind (arith, takes, lt_sign, plain_params, gt_sign, lt_tells.seen, unseen, lt_tells))
 
 pub where_tells : Tells IsWhereToken (sees Where)
 where_tells = word_tells Where _ _ refl
@@ -75,9 +73,8 @@ pub clause_of : Exactly IsWhereClause take_where_clause
 unfolding take_where_clause
 clause_of =
     exactly
-    (then where_word (λ w. then predicates (λ p. ends (λ _ _ p _ w. where_clause w p)))) go where
-      go : Written IsWhereClause take_where_clause
-      go _ _ _ (where_clause w p) = simp (takes where_word w, takes predicates p) refl
+    (then where_word (λ w. then predicates (λ p. ends (λ _ _ p _ w. where_clause w p))))
+    (λ f g v i. grind (arith, takes, where_word, predicates))
 
 where_first : {f g : Forest} {v : WhereForm} → IsWhereClause f v g
     → sees Where (only_trees f) ≡ true
@@ -128,75 +125,44 @@ body =
     (λ i. ends (λ _ _ i b _ c t f g h word name ps w n p. struct_struct w n p c i)))
     (then semi (λ s. ends (λ _ _ s b _ c t f g h word name ps w n p. unit_struct w n p c s)))))
 
+-- what an item has after its word
+ruleset parts = (identifier_exactly, params, clause)
+
+-- and what a struct has
+ruleset struct_parts = (
+  struct_word,
+  before_clause,
+  braces_seen,
+  named_fields,
+  semi_seen,
+  semi,
+  parentheses_seen,
+  unnamed_fields,
+)
+
 a_struct : Exactly IsStruct take_struct_item
 unfolding take_struct_item take_body take_tuple_body take_other_body
 a_struct =
     exactly
     (then struct_word (λ w. then identifier_exactly (λ n. then params (λ p. after body
-    (λ b. ends (λ _ i c h p g n f w. c f g h _ _ _ w n p)))))) go where
-      go : Written IsStruct take_struct_item
-      go _ _ _ (struct_struct w n p c i) =
-          simp (
-            takes struct_word w,
-            takes identifier_exactly n,
-            takes params p,
-            before_clause c (braces_seen i).1,
-            takes clause c,
-            (braces_seen i).0,
-            takes named_fields i,
-          ) refl
-      go _ _ _ (unit_struct w n p c s) =
-          simp (
-            takes struct_word w,
-            takes identifier_exactly n,
-            takes params p,
-            before_clause c (semi_seen s).0,
-            takes clause c,
-            (semi_seen s).1,
-            takes semi s,
-          ) refl
-      go _ _ _ (tuple_struct w n p i c s) =
-          simp (
-            takes struct_word w,
-            takes identifier_exactly n,
-            takes params p,
-            (parentheses_seen i).0,
-            takes unnamed_fields i,
-            takes clause c,
-            takes semi s,
-          ) refl
+    (λ b. ends (λ _ i c h p g n f w. c f g h _ _ _ w n p))))))
+    (λ f g v i. grind (arith, takes, parts, struct_parts))
 
 a_enum : Exactly IsEnumeration take_enum_item
 unfolding take_enum_item
 a_enum =
     exactly
     (then enum_word (λ w. then identifier_exactly (λ n. then params (λ p. then clause
-    (λ c. then in_braces (λ v. ends (λ _ _ v _ c _ p _ n _ w. enumeration w n p c v))))))) go where
-      go : Written IsEnumeration take_enum_item
-      go _ _ _ (enumeration w n p c v) =
-          simp (
-            takes enum_word w,
-            takes identifier_exactly n,
-            takes params p,
-            takes clause c,
-            takes in_braces v,
-          ) refl
+    (λ c. then in_braces (λ v. ends (λ _ _ v _ c _ p _ n _ w. enumeration w n p c v)))))))
+    (λ f g v i. grind (arith, takes, enum_word, parts, in_braces))
 
 the_union : Exactly IsUnion take_union_item
 unfolding take_union_item
 the_union =
     exactly
     (then union_word (λ w. then identifier_exactly (λ n. then params (λ p. then clause
-    (λ c. then named_fields (λ i. ends (λ _ _ i _ c _ p _ n _ w. a_union w n p c i))))))) go where
-      go : Written IsUnion take_union_item
-      go _ _ _ (a_union w n p c i) =
-          simp (
-            takes union_word w,
-            takes identifier_exactly n,
-            takes params p,
-            takes clause c,
-            takes named_fields i,
-          ) refl
+    (λ c. then named_fields (λ i. ends (λ _ _ i _ c _ p _ n _ w. a_union w n p c i)))))))
+    (λ f g v i. grind (arith, takes, union_word, parts, named_fields))
 
 -- what each begins with
 struct_seen : {f g : Forest} {v : ItemForm} → IsStruct f v g → sees Struct (only_trees f) ≡ true
@@ -221,19 +187,15 @@ unfolding take_item
 item =
     exactly (either (sees Struct) (so a_struct (λ _ _ _ i t. struct_item i))
     (either (sees Enum) (so a_enum (λ _ _ _ i t s. enum_item i))
-    (either (sees Union) (so the_union (λ _ _ _ i t e s. union_item i)) (refused _)))) go where
-      go : Written IsItem take_item
-      go _ _ _ (struct_item i) = simp (struct_seen i, takes a_struct i) refl
-      go _ _ _ (enum_item i) = let s = enum_seen i in simp (s.0, s.1, takes a_enum i) refl
-      go _ _ _ (union_item i) = let s = union_seen i in simp (s.0, s.1, s.2, takes the_union i) refl
+    (either (sees Union) (so the_union (λ _ _ _ i t e s. union_item i)) (refused _))))
+    (λ f g v i.
+    grind (arith, takes, struct_seen, enum_seen, union_seen, a_struct, a_enum, the_union))
 
 pub derive_input_exactly : Exactly IsDeriveInput take_input
 derive_input_exactly =
     exactly (then attributes (λ a. then visibility (λ v. then item
-    (λ i. ends (λ _ _ i _ v _ a. derive_input a v i))))) go where
-      go : Written IsDeriveInput take_input
-      go _ _ _ (derive_input a v i) =
-          simp (takes attributes a, takes visibility v, takes item i) refl
+    (λ i. ends (λ _ _ i _ v _ a. derive_input a v i)))))
+    (λ f g v i. grind (arith, takes, attributes, visibility, item))
 
 pub parses_input : (f : Forest) (scope : Span) (r : Result DeriveInput Fault)
     → TakesAll input_form take_input f scope r → ParsesInput f r

@@ -1,5 +1,5 @@
 -- Literals and metas in the arguments of attributes are taken exactly.
-use Rattle.std.proofs.Common.{◌≡◌, sym, subst, refl, true, false, List, [], ◌∷◌, ℕ, Ok, Err}
+use Rattle.std.proofs.Common.{arith, ◌≡◌, sym, subst, refl, true, false, List, [], ◌∷◌, ℕ, Ok, Err}
 use Rattle.std.specs.Prelude.{Result}
 use Rattle.tok_leaves.specs.Leaves.{literal}
 use Rattle.tok_leaves.specs.declared.literal.Literal.{Literal}
@@ -82,8 +82,7 @@ meta_item_inner =
 
 inner_left : {f g : Forest} {v : NestedForm} → IsMetaItemInner f v g
     → is_left (only_trees f) ≡ true
-inner_left inner_literal = refl
-inner_left (inner_meta m) = meta_left m
+inner_left h = grind (arith, meta_left)
 
 pub meta_seq_exactly : Exactly IsMetaSeq take_meta_seq
 unfolding take_meta_seq

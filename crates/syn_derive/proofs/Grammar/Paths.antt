@@ -1,5 +1,5 @@
 -- Paths and visibilities are taken exactly.
-use Rattle.std.proofs.Common.{◌≡◌, ◌∙◌, sym, refl, ℕ, true, false, List, inl, inr}
+use Rattle.std.proofs.Common.{arith, ◌≡◌, ◌∙◌, sym, refl, ℕ, true, false, List, inl, inr}
 use Rattle.std.proofs.lemmas.Bool.{false≢true, or_cases, or_from}
 use Rattle.tok_leaves.specs.declared.ident.Ident.{Ident}
 use Rattle.tok_leaves.specs.declared.span.Span.{Span}
@@ -97,9 +97,7 @@ segment_ident =
 
 pub segment : Exactly IsSegment take_segment
 unfolding take_segment
-segment =
-    exactly (then segment_ident (λ name. ends (λ _ _ s. s)))
-    (λ f g v s. simp (takes segment_ident s) refl)
+segment = grind (arith, exactly, then, segment_ident, ends, takes)
 
 -- paths
 colon : Exactly (Optional IsPathSep IsPathSep) (take_optional (sees PathSep) (take PathSep))
@@ -114,17 +112,13 @@ pub path : Exactly IsPath take_path
 unfolding take_path
 path =
     exactly
-    (then colon (λ c. then segments (λ s. ends (λ _ _ s _ c. simple_path c s)))) go where
-      go : Written IsPath take_path
-      go _ _ _ (simple_path c s) = simp (takes colon c, takes segments s) refl
+    (then colon (λ c. then segments (λ s. ends (λ _ _ s _ c. simple_path c s))))
+    (λ f g v i. grind (arith, takes, colon, segments))
 
 -- paths of any words
 any_segment : Exactly IsAnySegment take_any_segment
 unfolding take_any_segment
-any_segment =
-    exactly (then any_ident_exactly (λ i. ends (λ _ _ i. any_word i))) go where
-      go : Written IsAnySegment take_any_segment
-      go _ _ _ (any_word i) = simp (takes any_ident_exactly i) refl
+any_segment = grind (arith, exactly, then, any_ident_exactly, ends, any_word, takes)
 
 any_segments : Exactly (Separated IsAnySegment IsPathSep) take_any_segments
 unfolding take_any_segments
@@ -150,6 +144,5 @@ pub nested_path : Exactly IsNestedPath take_nested_path
 unfolding take_nested_path
 nested_path =
     exactly
-    (then colon (λ c. then nested_segments (λ s. ends (λ _ _ s _ c. path_of_words c s)))) go where
-      go : Written IsNestedPath take_nested_path
-      go _ _ _ (path_of_words c s) = simp (takes colon c, takes nested_segments s) refl
+    (then colon (λ c. then nested_segments (λ s. ends (λ _ _ s _ c. path_of_words c s))))
+    (λ f g v i. grind (arith, takes, colon, nested_segments))

@@ -1,5 +1,5 @@
 -- Visibilities are taken exactly.
-use Rattle.std.proofs.Common.{◌≡◌, ◌∙◌, sym, subst, refl, ℕ, Bool, true, List, Option, None, inl}
+use Rattle.std.proofs.Common.{arith, ◌≡◌, ◌∙◌, sym, subst, refl, ℕ, Bool, true, List, Option, None, inl}
 use Rattle.std.proofs.Common.{inr}
 use Rattle.std.proofs.lemmas.Bool.{and_parts, false_from_ne_true, false≢true, or_cases, or_left}
 use Rattle.tok_lexical.specs.declared.delimiter.Delimiter.TheVariants.{Brace, Bracket, Parenthesis}
@@ -50,9 +50,8 @@ all_inside : Exactly IsInside (take_both (take_optional (sees In) (take In)) tak
 unfolding take_both
 all_inside =
     exactly
-    (then in_word (λ w. then path (λ p. ends (λ _ _ p _ w. inside w p)))) go where
-      go : Written IsInside (take_both (take_optional (sees In) (take In)) take_path)
-      go _ _ _ (inside w p) = simp (takes in_word w, takes path p) refl
+    (then in_word (λ w. then path (λ p. ends (λ _ _ p _ w. inside w p))))
+    (λ f g v i. grind (arith, takes, in_word, path))
 
 -- one of the words is all there is
 data IsAlone : Forest → Type 0 where
