@@ -1,5 +1,5 @@
 -- A text of ASCII characters is its own characters.
-use Rattle.std.proofs.Common.{◌≡◌, ◌∙◌, ℕ, zero, suc, List, [], ◌∷◌, ◌++◌, ap}
+use Rattle.std.proofs.Common.{arith, ◌≡◌, ℕ, zero, suc, List, [], ◌∷◌, ◌++◌}
 use Rattle.std.specs.Prelude.{Bool, true, nat_lt}
 use Rattle.std.specs.List.{list_all}
 use Rattle.std.specs.Str.{IsAscii, IsUtf8, chars}
@@ -24,5 +24,4 @@ pub low_chars : (t : List ℕ) → is_low t ≡ true → chars t ≡ t
 low_chars t h = chars-IsAscii t (ascii t h)
 
 pub chars_after : (t rest : List ℕ) → is_low t ≡ true → chars (t ++ rest) ≡ t ++ chars rest
-chars_after t rest h =
-    chars-append t rest (low_utf8 t h) ∙ ap (λ w. w ++ chars rest) (low_chars t h)
+chars_after t rest h = grind (arith, chars-append, low_utf8, low_chars)

@@ -1,5 +1,5 @@
 -- What ends a name or a number: the character after it goes on with neither.
-use Rattle.std.proofs.Common.{◌≡◌, ◌∙◌, ◌<◌, ◌≤◌, ℕ, List, [], ◌∷◌, ◌++◌, refl, sym, ap, subst, arith}
+use Rattle.std.proofs.Common.{◌≡◌, ◌<◌, ◌≤◌, ℕ, List, [], ◌∷◌, ◌++◌, refl, arith}
 use Rattle.std.proofs.Common.{rules, tests}
 use Rattle.std.specs.Prelude.{Bool, true, false, ◌==◌, ◌||◌}
 use Rattle.std.specs.List.{list_all}
@@ -21,9 +21,7 @@ use Rattle.example_config.proofs.Choices.{differs}
 pub known : (rule : Rule) (taken after : List ℕ)
     → (found : List ℕ) × IsFirstFit (taken ++ after) (rules_of Plain) rule found after
     → IsFirstFit (taken ++ after) (rules_of Plain) rule taken after
-known rule taken after (found, fit) =
-    subst (λ p. IsFirstFit (taken ++ after) (rules_of Plain) rule p after)
-    (append_cancel_right found taken after (sym (fits_longest fit).cut)) fit
+known rule taken after h = grind (arith, append_cancel_right, fits_longest)
 
 -- a character that ends what is before it: `,`, `:`, `]` or `}`
 abbrev pub is_end : ℕ → Bool
@@ -39,22 +37,19 @@ low_end c h = let l : c ≤ 125 = search (rules, tests) in omega arith
 
 -- it goes on with no identifier, and with no digit
 no_word : (c : ℕ) → is_end c ≡ true → is_xid_continue c ≡ false
-no_word c h = is_xid_continue-ascii c (low_end c h) ∙ search (rules, tests)
+no_word c h = grind (arith, is_xid_continue-ascii, low_end)
 
 pub no_start : (c : ℕ) → is_end c ≡ true → is_identifier_start c ≡ false
-no_start c h =
-    ap (λ b. b || (c == 95)) (is_xid_start-ascii c (low_end c h)) ∙ search (rules, tests)
+no_start c h = grind (arith, is_xid_start-ascii, low_end)
 
 no_digit : (c : ℕ) → is_end c ≡ true → is_digit_or_underscore 10 c ≡ false
 no_digit c h = search (rules, tests)
 
 pub word_stops : (after : List ℕ) → ends after ≡ true → Stops is_xid_continue after
-word_stops [] h = tt
-word_stops (c ∷ after) h = no_word c h
+word_stops after h = grind (arith, no_word)
 
 pub digits_stop : (after : List ℕ) → ends after ≡ true → Stops (is_digit_or_underscore 10) after
-digits_stop [] h = tt
-digits_stop (c ∷ after) h = no_digit c h
+digits_stop after h = grind (arith, no_digit)
 
 -- characters that pass, and an end, begin with no other character
 pub begins_no : (k : ℕ) (p : ℕ → Bool) (word after : List ℕ) → p k ≡ false → is_end k ≡ false

@@ -13,7 +13,7 @@ use Rattle.tok_lexical.specs.Numbers.{is_digit_or_underscore, is_exponent, is_fr
 use Rattle.tok_lexical.specs.Pieces.{IsLongestPrefix}
 use Rattle.tok_lexical.specs.Private.Starts.{names_base, start_of}
 use Rattle.tok_lexical.specs.Rules.{among, decimal_rules, rules_of}
-use Rattle.tok_lexical.specs.Strings.{IsString, IsUnit, escape, plain}
+use Rattle.tok_lexical.specs.Strings.{IsString, IsUnit}
 use Rattle.tok_lexical.specs.Words.{IsSuffix}
 use Rattle.tok_lexical.specs.declared.contents.Contents.TheVariants.{Text}
 use Rattle.tok_lexical.specs.declared.rule.Mode.TheVariants.{Plain}
@@ -30,14 +30,12 @@ use Rattle.tok_lexical.proofs.Longest.{no_more}
 use Rattle.tok_lexical.proofs.Seconds.{decides_digit, decides_zero}
 use Rattle.tok_lexical.proofs.Units.{Reaches, reaches_first, reaches_units, takes_string}
 use Rattle.example_config.proofs.Choices.{differs, neither, not_first}
-use Rattle.example_config.proofs.Ends.{begins_no, digits_stop, ends, is_end, known, no_start}
+use Rattle.example_config.proofs.Ends.{begins_no, digits_stop, ends, known, no_start}
 use Rattle.example_config.proofs.Ends.{word_stops}
 
 -- no unit of a string begins with a quote
 no_quote : (piece x y : List ℕ) → IsUnit Text piece → 34 ∷ x ≡ piece ++ y → ⊥
-no_quote piece x y (plain c p q) e = p (sym (heads 34 c x y e))
-no_quote piece x y (escape {text = text} v) e =
-    absurd (omega (arith, heads 34 92 x (text ++ y) e))
+no_quote piece x y h e = grind (arith, heads)
 
 -- an end is no part of a suffix
 suffix_ends : (suffix more rest after : List ℕ) → ends after ≡ true → after ≡ more ++ rest
@@ -104,25 +102,15 @@ pub same_number : (ds : List ℕ) (n : ℕ) → AllDigits 10 ds
     → fold (λ m c. if is_digit c 10 then m * 10 + digit_value c else m) n ds
     ≡ digits_value_after 10 n ds
 same_number [] n h = refl
-same_number (c ∷ ds) n h =
-    ap (λ b. fold (λ m d. if is_digit d 10 then m * 10 + digit_value d else m)
-    (if b then n * 10 + digit_value c else n) ds) (lt-ltb (digit_value c) 10 h.0)
-    ∙ same_number ds (n * 10 + digit_value c) h.1
+same_number (c ∷ ds) n h = grind (arith, lt-ltb, same_number ds (n * 10 + digit_value c) h.1)
 
 -- no float goes on at an end
 pub no_float : (after : List ℕ) → ends after ≡ true
     → (is_exponent after || is_fraction after) ≡ false
-no_float [] e = refl
-no_float (c ∷ []) e =
-    neither _ _ (neither _ _ (differs is_end c 101 e refl) (differs is_end c 69 e refl))
-    (differs is_end c 46 e refl)
-no_float (c ∷ d ∷ after) e =
-    neither _ _ (neither _ _ (differs is_end c 101 e refl) (differs is_end c 69 e refl))
-    (not_first (c == 46) _ (differs is_end c 46 e refl))
+no_float after e = grind (arith, neither, differs, not_first)
 
 no_name_at : (after : List ℕ) → ends after ≡ true → starts_name after ≡ false
-no_name_at [] e = refl
-no_name_at (c ∷ after) e = no_start c e
+no_name_at after e = grind (arith, no_start)
 
 -- a decimal number
 module _ (c : ℕ) (ds : List ℕ) (all : list_all digit (c ∷ ds) ≡ true) where
@@ -141,10 +129,7 @@ module _ (c : ℕ) (ds : List ℕ) (all : list_all digit (c ∷ ds) ≡ true) wh
   -- it is read up to an end
   module _ (after : List ℕ) (e : ends after ≡ true) where
     no_base : names_base (ds ++ after) ≡ false
-    no_base =
-        neither _ _ (begins_no 120 digit ds after refl refl others e)
-        (neither _ _ (begins_no 111 digit ds after refl refl others e)
-        (begins_no 98 digit ds after refl refl others e))
+    no_base = grind (arith, neither, begins_no, others)
 
     found : (piece : List ℕ)
         × IsFirstFit (c ∷ (ds ++ after)) (among Plain decimal_rules) Decimal piece after

@@ -1,18 +1,17 @@
 -- What is taken as settings is what the grammar has, and what it has is taken.
-use Rattle.std.proofs.Common.{◌≡◌, ◌∙◌, sym, ap, refl, ℕ, ◌<◌, ◌^◌, ◌==◌, Bool, true, false}
-use Rattle.std.proofs.Common.{List, [], ◌∷◌, ◌++◌, Option, Some, None, bytes_eq, cond, eqb-true, length}
+use Rattle.std.proofs.Common.{arith, ◌≡◌, ◌∙◌, sym, refl, ℕ, ◌<◌, ◌^◌, Bool, true, false}
+use Rattle.std.proofs.Common.{List, [], ◌∷◌, ◌++◌, Option, Some, None, eqb-true}
 use Rattle.std.proofs.Common.{subst}
 use Rattle.std.proofs.lemmas.Bool.{false≢true, lt-ltb, ltb-true}
 use Rattle.std.proofs.lemmas.Slice.Eq.{bytes_eq-Decides}
-use Rattle.std.specs.Prelude.{codes, encode_utf8_all, if◌then◌else◌, is_some, nat_lt, option_map}
+use Rattle.std.specs.Prelude.{codes, if◌then◌else◌, nat_lt}
 use Rattle.std.specs.Str.{chars}
 use Rattle.tok_leaves.specs.Leaves.{ident, ident_of}
 use Rattle.tok_leaves.specs.declared.ident.Ident.{Ident}
 use Rattle.tok_leaves.specs.declared.literal.Literal.{Literal}
 use Rattle.tok_leaves.specs.declared.span.Span.{Span}
-use Rattle.tok_values.specs.Values.{integer_value, string_value, up_to_quote}
+use Rattle.tok_values.specs.Values.{integer_value, string_value}
 use Rattle.tok_core.specs.Forest.{Tree, leaf, Forest, tree}
-use Rattle.tok_buffer.specs.EachRead.{first_keyword}
 use Rattle.tok_types.specs.Sees.{any_ident_first, group_first, literal_first}
 use Rattle.syn_parse.proofs.Shapes.{IsSign, Shape, before, group_ahead, ident_ahead, literal_ahead}
 use Rattle.syn_parse.proofs.Shapes.{past, sign_ahead, sign_shape, step, token_shape}
@@ -50,8 +49,7 @@ module _ (literal : Literal) where
 
   by_suffix : (n : ℕ) (suffix : List ℕ) → integer_value (chars literal.text) ≡ Some (n, suffix)
       → n < 2 ^ 64 → Sound (in_number literal.span n suffix) IsMeaning
-  by_suffix n [] i w = ends (λ ts l. simp l (is_number literal n (i, w)))
-  by_suffix n (c ∷ cs) i w = refused_at _ _
+  by_suffix n suffix i w = grind (arith, ends, is_number, refused_at)
 
   by_size : (i : ℕ × List ℕ) (t : Bool) → integer_value (chars literal.text) ≡ Some i
       → nat_lt i.0 (2 ^ 64) ≡ t
@@ -62,13 +60,11 @@ module _ (literal : Literal) where
 
   by_integer : (o : Option (ℕ × List ℕ)) → integer_value (chars literal.text) ≡ o
       → Sound (in_integer literal.span o) IsMeaning
-  by_integer None k = refused_at _ _
-  by_integer (Some i) k = by_size i (nat_lt i.0 (2 ^ 64)) k refl
+  by_integer o k = grind (arith, refused_at, by_size)
 
   by_text : (o : Option (List ℕ)) → string_value (chars literal.text) ≡ o
       → Sound (in_text literal o) IsMeaning
-  by_text (Some t) k = ends (λ ts l. simp l (is_text literal t k))
-  by_text None k = by_integer (integer_value (chars literal.text)) refl
+  by_text o k = grind (arith, ends, is_text, by_integer)
 
   meaning_sound : Sound (meaning literal) IsMeaning
   unfolding meaning
@@ -87,9 +83,7 @@ plain_sound =
 include_seen : (key : Ident) (ts : List Tree) (b : Ahead) → key.text ≡ codes "include"
     → sees_own (codes "include") (before (leaf (ident_of key) ∷ ts) b) ≡ true
 unfolding own_first
-include_seen key ts b e =
-    ap (λ word. is_some (first_keyword (codes "include")
-    (tree (leaf (ident word key.span)) (before ts b).trees))) e
+include_seen key ts b e = grind arith
 
 module _ {m : Taking Form} (h : Sound m IsValue) where
   setting_sound : Sound (setting_step m) IsSetting
@@ -128,37 +122,22 @@ sound = settings_sound (nested_sound value_step (λ m h. value_level h))
 -- an integer is no string
 no_string : (t : List ℕ) (i : ℕ × List ℕ) → integer_value t ≡ Some i → string_value t ≡ None
 unfolding string_value integer_value
-no_string [] i e = refl
-no_string (c ∷ cs) i e = go (c == 34) refl where
-  go : (b : Bool) → (c == 34) ≡ b
-      → option_map encode_utf8_all (if b then up_to_quote (length cs) cs else None) ≡ None
-  go true k =
-      let x : integer_value (34 ∷ cs) ≡ Some i = subst (λ d. integer_value (d ∷ cs) ≡ Some i)
-      (eqb-true c 34 k) e in absurd (cc)
-  go false k = refl
+no_string t i e = grind (arith, eqb-true)
 
 module _ (literal : Literal) (b : Ahead) where
   text_meant : (t : List ℕ) → IsText literal t → meaning literal b ≡ found (text literal.span t) b
   unfolding meaning
-  text_meant t h = ap (λ o. in_text literal o b) h
+  text_meant t h = grind arith
 
   number_meant : (n : ℕ) → IsNumber literal n → meaning literal b ≡ found (number literal.span n) b
   unfolding meaning
-  number_meant n h =
-      ap (λ o. in_text literal o b) (no_string _ _ h.0) ∙ ap (λ o. in_integer literal.span o b) h.0
-      ∙ ap (λ t. (if t then in_number literal.span n []
-      else refuses_at literal.span (codes "expected an integer below 2^64")) b)
-      (lt-ltb n (2 ^ 64) h.1)
+  number_meant n h = grind (arith, no_string, lt-ltb)
 
 not_include : (key : Ident) (f : Forest) (c : Option Span) → (key.text ≡ codes "include" → ⊥)
     → sees_own (codes "include") (record { trees = tree (leaf (ident_of key)) f; unread = c })
     ≡ false
 unfolding own_first
-not_include key f c differs = go (bytes_eq (codes "include") key.text) refl where
-  go : (t : Bool) → bytes_eq (codes "include") key.text ≡ t
-      → is_some {T = List Tree × Forest} (cond t (Some (leaf (ident_of key) ∷ [], f)) None) ≡ false
-  go true e = absurd (differs (sym ((bytes_eq-Decides (codes "include") key.text).0 e)))
-  go false e = refl
+not_include key f c differs = grind (arith, bytes_eq-Decides)
 
 -- a truth value is its word
 truth_taken : (b : Bool) (span : Span) (a : Ahead)
@@ -167,8 +146,7 @@ truth_taken : (b : Bool) (span : Span) (a : Ahead)
     ≡ found (truth span b) a
 unfolding any_ident_first group_first literal_first own_first take_list_value take_literal_value
     take_map_value take_plain take_token
-truth_taken true span a = refl
-truth_taken false span a = refl
+truth_taken b span a = grind arith
 
 mutual
   unfolding any_ident_first group_first literal_first own_first setting_step take_key

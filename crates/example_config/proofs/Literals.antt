@@ -58,13 +58,7 @@ escapes_utf8 (c ∷ cs) h =
     (escapes_utf8 cs parts.1)
 
 pub quoted_utf8 : (t : List ℕ) → IsUtf8 t → IsUtf8 (in_quotes (chars t))
-quoted_utf8 t u =
-    IsUtf8-append (codes "\"") (flat_map escaped (chars t) ++ codes "\"") quote
-    (IsUtf8-append (flat_map escaped (chars t)) (codes "\"")
-    (escapes_utf8 (chars t) (scalars-chars t u)) quote)
-  where
-    quote : IsUtf8 (codes "\"")
-    quote = low_utf8 (codes "\"") refl
+quoted_utf8 t u = search (IsUtf8-append, escapes_utf8, scalars-chars, low_utf8)
 
 pub string_read : StringsAreRead → (number at : ℕ) (t after : List ℕ) → IsUtf8 t
     → ends after ≡ true → (span : Span)

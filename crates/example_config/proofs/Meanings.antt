@@ -1,12 +1,16 @@
 -- What integers mean, with a suffix and without one.
-use Rattle.std.proofs.Common.{◌≡◌, ◌∙◌, ◌<◌, ◌^◌, sym, ap, refl, ℕ, List, [], ◌∷◌, Some}
+use Rattle.std.proofs.Common.{◌∙◌, sym, ap, refl, ◌∷◌, subst}
+use Rattle.std.specs.Prelude.{encode_utf8_all}
+use Rattle.syn_parse.specs.Positions.{scope_trees}
+use Rattle.syn_parse.specs.Takes.{IsMissing, and_then}
+use Rattle.syn_parse.specs.TreesAhead.{ahead}
+use Rattle.std.proofs.Common.{◌≡◌, ◌<◌, ◌^◌, ℕ, List, [], Some}
 use Rattle.std.proofs.Common.{true, false}
-use Rattle.std.proofs.Common.{Bool, Err, None, Ok, Option, arith, eqb-true, subst}
+use Rattle.std.proofs.Common.{Err, Ok, Option, arith, eqb-true}
 use Rattle.std.specs.Prelude.{Result}
 use Rattle.std.proofs.lemmas.Bool.{false≢true, lt-ltb, ltb-true}
-use Rattle.std.specs.Prelude.{nat_lt}
 use Rattle.std.proofs.lemmas.Str.{encodes-chars}
-use Rattle.std.specs.Prelude.{◌==◌, codes, encode_utf8_all, if◌then◌else◌, length}
+use Rattle.std.specs.Prelude.{◌==◌, codes, length}
 use Rattle.std.specs.Str.{IsUtf8, chars}
 use Rattle.tok_leaves.specs.declared.span.Span.{Span}
 use Rattle.tok_core.specs.Forest.{Forest}
@@ -16,12 +20,10 @@ use Rattle.syn_parse.specs.Faults.{Refuses}
 use Rattle.tok_values.specs.Values.{HasValue}
 use Rattle.tok_values.specs.declared.integers.IntegerFault.TheVariants.{TooLarge}
 use Rattle.syn_parse.specs.State.{State}
-use Rattle.syn_parse.specs.Positions.{scope_trees}
-use Rattle.syn_parse.specs.Takes.{IsMissing, MemoryOr, Outcome, SaysFound, Taking, TakesAs, ◌>>=◌}
-use Rattle.syn_parse.specs.Takes.{and_then, found, refuses_at}
-use Rattle.syn_parse.specs.TreesAhead.{Ahead, ahead}
+use Rattle.syn_parse.specs.Takes.{MemoryOr, Outcome, SaysFound, Taking, TakesAs, ◌>>=◌}
+use Rattle.syn_parse.specs.Takes.{found, refuses_at}
+use Rattle.syn_parse.specs.TreesAhead.{Ahead}
 use Rattle.syn_parse.specs.declared.fault.Fault.{Fault}
-use Rattle.syn_parse.specs.declared.fault.Fault.TheVariants.{Memory, Refused}
 use Rattle.example_config.specs.Forms.{Form, number, value_form}
 use Rattle.example_config.specs.Reading.{Means, SaysOnce, in_integer, in_number}
 use Rattle.example_config.specs.declared.value.Value.{Value}
@@ -30,18 +32,14 @@ use Rattle.example_config.specs.declared.value.Value.{Value}
 at_given : (A : Type 0) (a : Ahead) (span : Span) (words : List ℕ) (f : Fault)
     → Refuses (message_at span words) f
     → (trees : Forest) (scope : Span) → SaysFound trees scope (refuses_at {A = A} span words a) f
-at_given A a span words (Refused e) k trees scope = (span, refl, k)
-at_given A a span words (Memory e) k trees scope = tt
+at_given A a span words f k trees scope = grind arith
 
 one_missing : (r : Message) (f : Fault) → Refuses r f → MemoryOr f (Unit {0})
-one_missing r (Refused e) k = (tt, ap length k)
-one_missing r (Memory e) k = tt
+one_missing r f k = grind arith
 
 pub says : {A : Type 0} (o : Outcome A) (a : Ahead) (span : Span) (words : List ℕ) (f : Fault)
     → o ≡ refuses_at span words a → Refuses (message_at span words) f → SaysOnce o f
-says {A} o a span words f h k =
-    subst (λ x. SaysOnce x f) (sym h)
-    (one_missing (message_at span words) f k, at_given A a span words f k)
+says {A} o a span words f h k = grind (arith, one_missing, at_given)
 
 pub is_empty : (text : List ℕ) → true ≡ (length text == 0) → text ≡ []
 is_empty [] e = refl
@@ -49,18 +47,16 @@ is_empty (c ∷ text) e =
     let k = eqb-true (length (c ∷ text)) 0 (sym e) in absurd (omega (arith, k))
 
 no_text : (text : List ℕ) → false ≡ (length text == 0) → text ≡ [] → ⊥
-no_text text e k = false≢true (e ∙ ap (λ t. length t == 0) k)
+no_text text e k = grind (arith, false≢true)
 
 module _ (span : Span) (n : ℕ) (suffix : List ℕ) (a : Ahead) (small : n < 2 ^ 64) where
   fits : in_integer span (Some (n, chars suffix)) a ≡ in_number span n (chars suffix) a
-  fits =
-      ap (λ b. (if b then in_number span n (chars suffix)
-      else refuses_at span (codes "expected an integer below 2^64")) a) (lt-ltb n (2 ^ 64) small)
+  fits = grind (arith, lt-ltb)
 
   pub without_suffix : true ≡ (length suffix == 0)
       → in_integer span (Some (n, chars suffix)) a ≡ found (number span n) a
   unfolding chars
-  without_suffix e = fits ∙ ap (λ t. in_number span n (chars t) a) (is_empty suffix e)
+  without_suffix e = grind (arith, fits, is_empty)
 
   pub with_suffix : IsUtf8 suffix → false ≡ (length suffix == 0)
       → in_integer span (Some (n, chars suffix)) a ≡ refuses_at span (codes "expected no suffix") a
@@ -74,14 +70,7 @@ module _ (span : Span) (n : ℕ) (suffix : List ℕ) (a : Ahead) (small : n < 2 
 pub too_large : (span : Span) (wanted : Option (ℕ × List ℕ)) (a : Ahead)
     → HasValue wanted (Err TooLarge)
     → in_integer span wanted a ≡ refuses_at span (codes "expected an integer below 2^64") a
-too_large span None a h = absurd h
-too_large span (Some i) a h = go (nat_lt i.0 (2 ^ 64)) refl where
-  go : (b : Bool) → nat_lt i.0 (2 ^ 64) ≡ b
-      → (if b then in_number span i.0 i.1
-      else refuses_at span (codes "expected an integer below 2^64")) a
-      ≡ refuses_at span (codes "expected an integer below 2^64") a
-  go true e = let k = ltb-true i.0 (2 ^ 64) e in absurd (omega (arith, k, h))
-  go false e = refl
+too_large span wanted a h = grind (arith, ltb-true)
 
 -- a value is taken, and then what it means
 module _ {B : Type 0} (take : Taking B) (m : B → Taking Form) (v : B) (s t : State) where

@@ -1,10 +1,10 @@
 -- A name is one piece before an end, whatever its first character is.
-use Rattle.std.proofs.Common.{◌≡◌, ◌∙◌, ◌<◌, ◌≤◌, ℕ, List, [], ◌∷◌, ◌++◌, refl, sym, ap, subst}
+use Rattle.std.proofs.Common.{◌≡◌, ◌<◌, ◌≤◌, ℕ, List, [], ◌∷◌, ◌++◌, refl, ap}
 use Rattle.std.proofs.Common.{arith, inl, inr, eqb-true}
-use Rattle.std.specs.Prelude.{Bool, true, false, ◌==◌, ◌||◌, ◌&&◌, not}
+use Rattle.std.specs.Prelude.{Bool, true, false, ◌==◌, ◌||◌, ◌&&◌}
 use Rattle.std.specs.Prelude.{nat_le}
 use Rattle.std.specs.List.{list_all}
-use Rattle.std.specs.Char.{is_ascii_alphabetic, is_digit}
+use Rattle.std.specs.Char.{is_digit}
 use Rattle.std.proofs.lemmas.Bool.{cases_lt, false≢true, ne_eqb}
 use Rattle.std.proofs.lemmas.Bool.Decides.{nat_tests}
 use Rattle.unicode_ident.specs.Ident.{is_xid_continue}
@@ -41,20 +41,10 @@ prefix_starts c h = go (c == 98) (c == 99) refl refl h
   where
     go : (a b : Bool) → (c == 98) ≡ a → (c == 99) ≡ b → (a || (b || (c == 114))) ≡ true →
         start_of c ≡ start.Prefix
-    go true b e f k = ap start_of (eqb-true c 98 e)
-    go false true e f k = ap start_of (eqb-true c 99 f)
-    go false false e f k = ap start_of (eqb-true c 114 k)
+    go a b e f k = grind (arith, eqb-true)
 
 low_word : (c : ℕ) → c < 128 → is_identifier_start c ≡ true → is_word (start_of c) ≡ true
-low_word c low h = go (is_prefix c) refl
-  where
-    letter : (is_ascii_alphabetic c || (c == 95)) ≡ true
-    letter = sym (ap (λ b. b || (c == 95)) (is_xid_start-ascii c low)) ∙ h
-
-    go : (b : Bool) → is_prefix c ≡ b → is_word (start_of c) ≡ true
-    go true e = ap is_word (prefix_starts c e)
-    go false e =
-        ap is_word (letter_starts c (ap (λ b. b && not (is_prefix c)) letter ∙ ap not e))
+low_word c low h = grind (arith, is_xid_start-ascii, prefix_starts, letter_starts)
 
 -- marks and white space beyond ASCII begin no word
 none_begins : (is_identifier_start 0xFEFF ≡ false) × (is_identifier_start 0xAB ≡ false)
@@ -73,48 +63,22 @@ module _ (c : ℕ) (high : 128 ≤ c) (h : is_identifier_start c ≡ true) where
   besides k n = differs is_identifier_start c k h n
 
   no_mark : is_mark c ≡ false
-  no_mark =
-      neither _ _ (besides 0xFEFF none_begins.0)
-      (neither _ _ (besides 0xAB none_begins.1) (besides 0xBB none_begins.2))
+  no_mark = grind (arith, neither, besides, none_begins)
 
   no_control : (nat_le 9 c && nat_le c 13) ≡ false
   no_control = grind (arith, nat_tests)
 
   no_space : is_whitespace c ≡ false
-  no_space =
-      neither _ _
-      (neither _ _
-      (neither _ _
-      (neither _ _
-      (neither _ _ (neither _ _ no_control (above 32 (omega arith))) (besides 0x85 none_begins.3))
-      (besides 0x200E none_begins.4)) (besides 0x200F none_begins.5))
-      (besides 0x2028 none_begins.6)) (besides 0x2029 none_begins.7)
+  no_space = grind (arith, neither, no_control, above, besides, none_begins)
 
   no_digit : is_digit c 10 ≡ false
   no_digit = grind (arith, nat_tests)
 
   no_prefix : is_prefix c ≡ false
-  no_prefix =
-      neither _ _ (above 98 (omega arith))
-      (neither _ _ (above 99 (omega arith)) (above 114 (omega arith)))
+  no_prefix = grind (arith, neither, above)
 
   pub high_starts : start_of c ≡ start.Letter
-  high_starts =
-      past (is_mark c) _ _ _ no_mark
-      (past (is_whitespace c) _ _ _ no_space
-      (past (c == 48) _ _ _ (above 48 (omega arith))
-      (past (is_digit c 10) _ _ _ no_digit
-      (past (is_prefix c) _ _ _ no_prefix
-      (past (c == 47) _ _ _ (above 47 (omega arith))
-      (past (c == 34) _ _ _ (above 34 (omega arith))
-      (past (c == 39) _ _ _ (above 39 (omega arith))
-      (past (c == 40) _ _ _ (above 40 (omega arith))
-      (past (c == 41) _ _ _ (above 41 (omega arith))
-      (past (c == 91) _ _ _ (above 91 (omega arith))
-      (past (c == 93) _ _ _ (above 93 (omega arith))
-      (past (c == 123) _ _ _ (above 123 (omega arith))
-      (past (c == 125) _ _ _ (above 125 (omega arith))
-      (chosen (is_identifier_start c) _ _ h))))))))))))))
+  high_starts = grind (arith, past, no_mark, no_space, above, no_digit, no_prefix, chosen)
 
 starts_word : (c : ℕ) → is_identifier_start c ≡ true → is_word (start_of c) ≡ true
 starts_word c h = elim (cases_lt c 128) [
@@ -125,10 +89,7 @@ starts_word c h = elim (cases_lt c 128) [
 -- the rest of a word begins neither a literal nor a raw identifier
 no_string : (word after : List ℕ) → list_all is_xid_continue word ≡ true → ends after ≡ true
     → opens_string (word ++ after) ≡ false
-no_string word after h e =
-    neither _ _
-    (begins_no 34 is_xid_continue word after (is_xid_continue-ascii 34 (omega arith)) refl h e)
-    (begins_no 35 is_xid_continue word after (is_xid_continue-ascii 35 (omega arith)) refl h e)
+no_string word after h e = grind (arith, neither, begins_no, is_xid_continue-ascii)
 
 no_raw : (word after : List ℕ) → list_all is_xid_continue word ≡ true → ends after ≡ true
     → (begins_with 114 (word ++ after) && opens_string (after_first (word ++ after))) ≡ false
@@ -140,9 +101,7 @@ no_raw (c ∷ word) after h e =
 no_literal : (word after : List ℕ) → list_all is_xid_continue word ≡ true → ends after ≡ true
     → opens_literal (word ++ after) ≡ false
 no_literal word after h e =
-    neither _ _
-    (begins_no 39 is_xid_continue word after (is_xid_continue-ascii 39 (omega arith)) refl h e)
-    (neither _ _ (no_string word after h e) (no_raw word after h e))
+    grind (arith, neither, begins_no, is_xid_continue-ascii, no_string, no_raw)
 
 -- a plain identifier, before an end
 pub word_fits : (c : ℕ) (cs after : List ℕ) → IsIdentifier (c ∷ cs) → ends after ≡ true
@@ -165,19 +124,7 @@ word_fits c cs after w e =
 -- a raw identifier, before an end
 raw_longest : (word more rest after : List ℕ) → IsRawIdentifier word → Stops is_xid_continue after
     → after ≡ more ++ rest → IsRawIdentifier (word ++ more) → more ≡ []
-raw_longest word more rest after (m, e, (n, f, w)) s cut (m', e', (n', f', w')) =
-    go n w (subst IsIdentifier same w')
-  where
-    whole : 114 ∷ 35 ∷ n' ≡ 114 ∷ 35 ∷ (n ++ more)
-    whole = sym (e' ∙ ap (λ v. 114 ∷ v) f')
-        ∙ ap (λ v. v ++ more) (e ∙ ap (λ v. 114 ∷ v) f)
-
-    same : n' ≡ n ++ more
-    same = tails 35 35 n' (n ++ more) (tails 114 114 (35 ∷ n') (35 ∷ (n ++ more)) whole)
-
-    go : (n : List ℕ) → IsIdentifier n → IsIdentifier (n ++ more) → more ≡ []
-    go [] w v = absurd w
-    go (c ∷ cs) w v = no_more is_xid_continue after more rest cs s cut v.1
+raw_longest word more rest after h s cut k = grind (arith, tails, no_more)
 
 pub raw_fits : (word after : List ℕ) → IsRawIdentifier word → ends after ≡ true
     → IsFirstFit (word ++ after) (rules_of Plain) RawIdentifier word after

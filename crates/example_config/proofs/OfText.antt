@@ -1,17 +1,14 @@
 -- What is read from a text is what a text can have.
-use Rattle.std.proofs.Common.{◌≡◌, ◌∙◌, ◌≤◌, ℕ, List, [], ◌∷◌, ◌++◌, refl, sym, ap, subst, arith}
-use Rattle.std.proofs.Common.{inl, inr, None, Some, map}
-use Rattle.std.specs.Prelude.{Bool, true, false, ◌==◌, encode_utf8_all}
+use Rattle.std.proofs.Common.{◌≡◌, ◌∙◌, ◌≤◌, ℕ, List, [], ◌∷◌, ◌++◌, refl, sym, ap, arith}
+use Rattle.std.proofs.Common.{None, Some, map}
+use Rattle.std.specs.Prelude.{Bool, true, false, encode_utf8_all}
 use Rattle.std.specs.Prelude.{if◌then◌else◌}
 use Rattle.std.specs.Str.{IsUtf8, chars}
 use Rattle.std.proofs.lemmas.Bool.{and_from, and_parts, false≢true}
 use Rattle.std.proofs.lemmas.Str.{chars-encodes}
 use lib.Utf8.{scalar, scalars}
-use Rattle.unicode_ident.specs.Ident.{is_xid_continue}
 use Rattle.unicode_ident.proofs.IdentLemmas.{is_xid_continue-ascii}
-use Rattle.tok_lexical.specs.Comments.{is_block_doc, is_line_doc}
 use Rattle.tok_lexical.specs.Errors.{error_kind}
-use Rattle.tok_lexical.specs.Pieces.{after_first}
 use Rattle.tok_lexical.specs.Rules.{Spells, is_in}
 use Rattle.tok_lexical.specs.Words.{IsIdentifier, IsName, is_missing_raw}
 use Rattle.tok_lexical.specs.declared.lex_error_kind.LexErrorKind.{LexErrorKind}
@@ -75,26 +72,17 @@ piece_utf8 taken s = (taken, (s, refl))
 name_of_text : (name : List ℕ) → scalars name ≡ true → IsName name → is_missing_raw name ≡ false
     → IsUtf8 (encode_utf8_all name) × IsName (chars (encode_utf8_all name))
     × (is_missing_raw (chars (encode_utf8_all name)) ≡ false)
-name_of_text name s is exists =
-    let same = chars-encodes name s in
-    (piece_utf8 name s, subst IsName (sym same) is, ap is_missing_raw same ∙ exists)
+name_of_text name s is exists = grind (arith, chars-encodes, piece_utf8)
 
 -- a plain identifier is no raw one
 not_raw : (name : List ℕ) → IsIdentifier name → is_missing_raw name ≡ false
-not_raw [] w = refl
-not_raw (c ∷ []) w = refl
-not_raw (c ∷ d ∷ word) w =
-    not_second (c == 114) _ (not_first (d == 35) _
-    (differs is_xid_continue d 35 (head_passes is_xid_continue d word w.1)
-    (is_xid_continue-ascii 35 (omega arith))))
+not_raw name w = grind (arith, not_second, not_first, differs, head_passes, is_xid_continue-ascii)
 
 no_error : (b : Bool) (kind : LexErrorKind) → (if b then Some kind else None) ≡ None → b ≡ false
-no_error true kind e = absurd (cc)
-no_error false kind e = refl
+no_error b kind e = grind arith
 
 only_if : (b : Bool) (xs : List Item) → b ≡ false → ItemsOfText (if b then xs else [])
-only_if true xs e = absurd (false≢true (sym e))
-only_if false xs e = tt
+only_if b xs e = grind (arith, false≢true)
 
 puncts : (number at : ℕ) (joint : Bool) (taken : List ℕ)
     → ItemsOfText (map (λ c. punct_item number at c joint) taken)
@@ -105,40 +93,18 @@ puncts number at joint (c ∷ taken) = (tt, puncts number at joint taken)
 items_are : (number : ℕ) (r : Rule) (at : ℕ) (taken after : List ℕ) → scalars taken ≡ true
     → is_in Plain r ≡ true → Spells r taken → error_kind r Plain at taken after ≡ None
     → ItemsOfText (items number r Plain at taken after)
-items_are number rule.LineComment at taken after s h k e =
-    only_if (is_line_doc taken) _ (no_error (is_line_doc taken) _ e)
-items_are number rule.BlockComment at taken after s h k e =
-    only_if (is_block_doc taken) _ (no_error (is_block_doc taken) _ e)
-items_are number (rule.Opening d) at taken after s h k e = (tt, tt)
-items_are number (rule.Closing d) at taken after s h k e = (tt, tt)
-items_are number (rule.QuotedString contents) at taken after s h k e = (piece_utf8 taken s, tt)
-items_are number rule.ByteChar at taken after s h k e = (piece_utf8 taken s, tt)
-items_are number (rule.RawString contents) at taken after s h k e = (piece_utf8 taken s, tt)
-items_are number rule.EscapedChar at taken after s h k e = (piece_utf8 taken s, tt)
-items_are number rule.PlainChar at taken after s h k e = (piece_utf8 taken s, tt)
-items_are number rule.Lifetime at taken after s h (name, is, k) e = (
-  tt,
-  (
-    name_of_text (after_first taken)
-        (subst (λ w. scalars (after_first w) ≡ true) (sym is)
-        (parts_are (39 ∷ []) name (ap scalars (sym is) ∙ s)).1)
-        (subst (λ w. IsName (after_first w)) (sym is) k)
-        (no_error (is_missing_raw (after_first taken)) _ e),
-    tt,
-  ),
-)
-items_are number rule.PlainLifetime at taken after s h k e = absurd (false≢true h)
-items_are number rule.Apostrophe at taken after s h k e = (tt, tt)
-items_are number (rule.Based base) at taken after s h k e = (piece_utf8 taken s, tt)
-items_are number rule.Float at taken after s h k e = (piece_utf8 taken s, tt)
-items_are number rule.PointedDecimal at taken after s h k e = absurd (false≢true h)
-items_are number rule.Decimal at taken after s h k e = (piece_utf8 taken s, tt)
-items_are number rule.RawIdentifier at taken after s h k e =
-    (name_of_text taken s (inr k) (no_error (is_missing_raw taken) _ e), tt)
-items_are number rule.Identifier at taken after s h k e =
-    (name_of_text taken s (inl k) (not_raw taken k), tt)
-items_are number rule.Punct at taken after s h k e = puncts number at _ taken
-items_are number r at taken after s h k e = tt
+items_are number r at taken after s h k e =
+    grind (
+      arith,
+      only_if,
+      no_error,
+      piece_utf8,
+      name_of_text,
+      parts_are,
+      false≢true,
+      not_raw,
+      puncts,
+    )
 
 cut_is : {number at end : ℕ} {text rest : List ℕ} {all : List Item} → scalars text ≡ true
     → Cut Plain number at text all end rest → ItemsOfText all

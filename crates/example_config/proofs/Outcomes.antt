@@ -1,5 +1,6 @@
 -- What the reader returns is what the grammar says.
-use Rattle.std.proofs.Common.{◌≡◌, Err, List, Ok, inl, inr, refl, subst, true, ℕ}
+use Rattle.std.proofs.Common.{inl, refl, subst}
+use Rattle.std.proofs.Common.{arith, ◌≡◌, List, true, ℕ}
 use Rattle.std.specs.Prelude.{Result}
 use Rattle.tok_lexical.specs.declared.rule.Mode.TheVariants.{Plain}
 use Rattle.tok_leaves.specs.declared.span.Span.{Span}
@@ -11,12 +12,8 @@ use Rattle.tok_core.proofs.Lexical.Visible.{all_visible}
 use Rattle.syn_parse.specs.Sources.{end_of_tokens}
 use Rattle.syn_parse.specs.Takings.{KeepsWhole}
 use Rattle.syn_parse.specs.TokenNames.{Comma, Token}
-use Rattle.syn_parse.specs.TreesAhead.{all_taken}
 use Rattle.syn_parse.specs.declared.fault.Fault.{Fault}
-use Rattle.syn_parse.specs.declared.fault.Fault.TheVariants.{Memory, Refused}
-use Rattle.syn_punctuated.specs.TakeLists.{list_form}
 use Rattle.syn_punctuated.specs.declared.punctuated.Punctuated.{Punctuated}
-use Rattle.example_config.specs.Forms.{setting_form}
 use Rattle.example_config.specs.Grammar.{Parses}
 use Rattle.example_config.specs.Reading.{ReadsText, settings}
 use Rattle.example_config.specs.declared.value.Setting.{Setting}
@@ -24,11 +21,7 @@ use Rattle.example_config.proofs.Grammar.{settings_taken, sound}
 
 parses : (f : Forest) (end : Span) (r : Result (Punctuated Setting (Token Comma)) Fault)
     → KeepsWhole settings f end r → filled f ≡ true → Parses (erase f) r
-parses f end (Ok config) h i =
-    (sound.taken (erase f) all_taken (list_form setting_form (λ p. p) config) (h i)).1
-parses f end (Err (Refused e)) h i =
-    inr (λ form l. (h i).0.0 form (settings_taken l))
-parses f end (Err (Memory e)) h i = inl tt
+parses f end r h i = grind (arith, sound.taken, settings_taken)
 
 -- a text has no invisible groups, so its tokens are all that is read
 pub reads_text : (source : ℕ) (cs : List ℕ) (f : Forest)

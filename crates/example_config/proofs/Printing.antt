@@ -1,5 +1,5 @@
 -- Texts are written in a row, one by one.
-use Rattle.std.proofs.Common.{◌≡◌, ◌∙◌, sym, ap, refl, Bool, true, false, cond, List, [], ◌∷◌, ◌++◌, ℕ}
+use Rattle.std.proofs.Common.{arith, ◌≡◌, Bool, true, false, cond, List, [], ◌∷◌, ◌++◌, ℕ}
 use Rattle.std.proofs.Common.{append_assoc, codes}
 use Rattle.std.proofs.lemmas.List.{append-nil}
 use Rattle.std.proofs.Output.{writes_in_calls_nil}
@@ -19,24 +19,18 @@ gap first = cond first [] (codes ", ")
 
 left_next : (first : Bool) (t : List ℕ) (ts : List (List ℕ))
     → left first (t ∷ ts) ≡ gap first ++ (t ++ left false ts)
-left_next true t ts = refl
-left_next false t ts = append_assoc (codes ", ") t (left false ts)
+left_next first t ts = grind (arith, append_assoc)
 
 -- one text further
 pub text_further : (first : Bool) (done t : List ℕ) (ts : List (List ℕ)) (all : List ℕ)
     → done ++ left first (t ∷ ts) ≡ all → ((done ++ gap first) ++ t) ++ left false ts ≡ all
-text_further first done t ts all h =
-    append_assoc (done ++ gap first) t (left false ts)
-    ∙ append_assoc done (gap first) (t ++ left false ts)
-    ∙ ap (λ w. done ++ w) (sym (left_next first t ts)) ∙ h
+text_further first done t ts all h = grind (arith, append_assoc, left_next)
 
 -- no text is left
 pub all_written : (first : Bool) (done all : List ℕ) → done ++ left first [] ≡ all → done ≡ all
-all_written true done all h = sym (append-nil done) ∙ h
-all_written false done all h = sym (append-nil done) ∙ h
+all_written first done all h = grind (arith, append-nil)
 
 -- nothing is written yet
 pub none_written : {W : Type 0} (took : W → List ℕ → W → Type 0) (f : Formatter W)
     → IsPlainFormatter f → HasWritten took f [] f
-none_written took f plain =
-    record { wrote = writes_in_calls_nil took f.writer; plain = plain }
+none_written took f plain = grind (arith, writes_in_calls_nil)

@@ -85,9 +85,7 @@ bare_forms (one_value value others) = ap (one_value (value_spanless value)) (bar
 
 bare_setting_forms : (ss : SettingForms) → setting_forms (bare_settings ss) ≡ settings_spanless ss
 bare_setting_forms no_settings = refl
-bare_setting_forms (one_setting key colon value others) =
-    ap (one_setting (key_spanless key) (sign_at call_site) (value_spanless value))
-    (bare_setting_forms others)
+bare_setting_forms (one_setting key colon value others) = grind (arith, bare_setting_forms others)
 
 spanless_forms : (vs : List Form) → values_spanless (forms vs) ≡ forms (map value_spanless vs)
 spanless_forms [] = refl
@@ -96,9 +94,7 @@ spanless_forms (v ∷ vs) = ap (one_value (value_spanless v)) (spanless_forms vs
 spanless_settings : (ss : List SettingForm)
     → settings_spanless (setting_forms ss) ≡ setting_forms (map setting_spanless ss)
 spanless_settings [] = refl
-spanless_settings (s ∷ ss) =
-    ap (one_setting (key_spanless s.0) (sign_at call_site) (value_spanless s.2))
-    (spanless_settings ss)
+spanless_settings (s ∷ ss) = grind (arith, spanless_settings ss)
 
 -- the two words of truth values
 continues : (cs : List ℕ) → list_all is_ascii_continue cs ≡ true
@@ -136,10 +132,7 @@ text_name_read source at name after u is exists e =
 word_read : (source at : ℕ) (word after : List ℕ) → is_low word ≡ true → IsIdentifier word
     → is_missing_raw word ≡ false → ends after ≡ true → (span : Span)
     × Reads source at (chars word ++ after) (tree (leaf (ident word span)) no_trees) after
-word_read source at word after low is exists e =
-    text_name_read source at word after (low_utf8 word low)
-    (subst IsName (sym (low_chars word low)) (inl is))
-    (ap is_missing_raw (low_chars word low) ∙ exists) e
+word_read source at word after low is exists e = grind (arith, text_name_read, low_utf8, low_chars)
 
 -- a text between two delimiters
 abbrev between : (left right : ℕ) → List ℕ → List ℕ
@@ -147,18 +140,13 @@ between left right inner = (left ∷ []) ++ (inner ++ right ∷ [])
 
 between_utf8 : (left right : ℕ) (inner : List ℕ) → is_low (left ∷ []) ≡ true
     → is_low (right ∷ []) ≡ true → IsUtf8 inner → IsUtf8 (between left right inner)
-between_utf8 left right inner h k u =
-    IsUtf8-append (left ∷ []) (inner ++ right ∷ []) (low_utf8 (left ∷ []) h)
-    (IsUtf8-append inner (right ∷ []) u (low_utf8 (right ∷ []) k))
+between_utf8 left right inner h k u = search (IsUtf8-append, low_utf8)
 
 between_chars : (left right : ℕ) (inner after : List ℕ) → is_low (left ∷ []) ≡ true
     → is_low (right ∷ []) ≡ true → IsUtf8 inner
     → chars (between left right inner) ++ after ≡ left ∷ (chars inner ++ right ∷ after)
 between_chars left right inner after h k u =
-    ap (λ w. w ++ after) (chars_after (left ∷ []) (inner ++ right ∷ []) h
-    ∙ ap (λ w. left ∷ w) (chars-append inner (right ∷ []) u
-    ∙ ap (λ w. chars inner ++ w) (low_chars (right ∷ []) k)))
-    ∙ ap (λ w. left ∷ w) (append_assoc (chars inner) (right ∷ []) after)
+    search (chars_after, chars-append, low_chars, append_assoc)
 
 -- the delimiters
 opens_bracket : (more : List ℕ)
@@ -187,10 +175,7 @@ closes_brace more =
 
 key_chars : (key value after : List ℕ) → IsUtf8 key
     → chars (after_key key value) ++ after ≡ chars key ++ 58 ∷ 32 ∷ (chars value ++ after)
-key_chars key value after u =
-    ap (λ w. w ++ after) (chars-append key (codes ": " ++ value) u
-    ∙ ap (λ w. chars key ++ w) (chars_after (codes ": ") value refl))
-    ∙ append_assoc (chars key) (codes ": " ++ chars value) after
+key_chars key value after u = search (chars-append, chars_after, append_assoc)
 
 module _ (source : ℕ) (keep : StringsKeepText) (are_read : StringsAreRead)
     (one_string : StringsHaveOneValue) (one_integer : IntegersHaveOneValue) where
@@ -394,8 +379,7 @@ module _ (source : ℕ) (keep : StringsKeepText) (are_read : StringsAreRead)
   no_value_read : (ss : List SettingForm) (r : Result (Punctuated Setting (Token Comma)) Fault)
       → OnMemory r
       → MatchResult r (λ config. SameSettings (map setting_form (values_of config)) ss) IsMemory
-  no_value_read ss (Ok config) h = absurd h
-  no_value_read ss (Err f) h = h
+  no_value_read ss r h = grind arith
 
   pub are_read_back : (ss : List SettingForm) (r : Result (Punctuated Setting (Token Comma)) Fault)
       → IsConfigOfText ss → ReadsText source (chars (settings_text ss)) r

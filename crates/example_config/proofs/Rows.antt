@@ -30,18 +30,11 @@ in_lines = flat_map (λ t. t ++ codes ",\n")
 row_chars : (t u : List ℕ) (us : List (List ℕ)) (after : List ℕ) → IsUtf8 t
     → chars (t ++ rest_of_row (u ∷ us)) ++ after
     ≡ chars t ++ 44 ∷ 32 ∷ (chars (u ++ rest_of_row us) ++ after)
-row_chars t u us after utf8 =
-    ap (λ w. w ++ after) (chars-append t (rest_of_row (u ∷ us)) utf8
-    ∙ ap (λ w. chars t ++ w) (ap chars (append_assoc (codes ", ") u (rest_of_row us))
-    ∙ chars_after (codes ", ") (u ++ rest_of_row us) refl))
-    ∙ append_assoc (chars t) (codes ", " ++ chars (u ++ rest_of_row us)) after
+row_chars t u us after utf8 = search (chars-append, append_assoc, chars_after)
 
 line_chars : (t : List ℕ) (ts : List (List ℕ)) → IsUtf8 t
     → chars (in_lines (t ∷ ts)) ≡ chars t ++ 44 ∷ 10 ∷ chars (in_lines ts)
-line_chars t ts utf8 =
-    ap chars (append_assoc t (codes ",\n") (in_lines ts))
-    ∙ chars-append t (codes ",\n" ++ in_lines ts) utf8
-    ∙ ap (λ w. chars t ++ w) (chars_after (codes ",\n") (in_lines ts) refl)
+line_chars t ts utf8 = search (append_assoc, chars-append, chars_after)
 
 none_read : (number at : ℕ) (after : List ℕ) → Reads number at (chars [] ++ after) no_trees after
 none_read number at after =
@@ -78,9 +71,7 @@ module _ {X B : Type 0} (bare : X → B) (Is : X → List Tree → Type 0) (numb
   rest_utf8 n [] [] h = IsUtf8-nil
   rest_utf8 n [] (b ∷ bs) h = absurd h
   rest_utf8 n (t ∷ ts) [] h = absurd h
-  rest_utf8 n (t ∷ ts) (b ∷ bs) h =
-      IsUtf8-append (codes ", " ++ t) (rest_of_row ts)
-      (IsUtf8-append (codes ", ") t (low_utf8 (codes ", ") refl) h.0.0) (rest_utf8 n ts bs h.1)
+  rest_utf8 n (t ∷ ts) (b ∷ bs) h = search (IsUtf8-append, low_utf8, rest_utf8 n ts bs h.1)
 
   pub row_utf8 : (n : ℕ) (ts : List (List ℕ)) (bs : List B) → AreReadAs n ts bs
       → IsUtf8 (in_a_row ts)
@@ -157,15 +148,7 @@ module _ {X B : Type 0} (bare : X → B) (Is : X → List Tree → Type 0) (numb
         pub rows_read : (n at : ℕ) (ts : List (List ℕ)) (bs : List B) → AreReadAs n ts bs
             → (after : List ℕ) → ends after ≡ true
             → ReadsAll n at (chars (in_a_row ts) ++ after) bs after
-        rows_read n at [] [] h after e = record {
-          values = [];
-          commas = [];
-          inside = no_trees;
-          are = none;
-          same = refl;
-          low = omega arith;
-          reads = none_read number at after;
-        }
+        rows_read n at [] [] h after e = grind (arith, none_read)
         rows_read n at [] (b ∷ bs) h after e = absurd h
         rows_read n at (t ∷ ts) [] h after e = absurd h
         rows_read n at (t ∷ ts) (b ∷ bs) h after e = row_read n at t ts b bs h.0 h.1 after e
