@@ -1,6 +1,6 @@
 -- What is taken as arguments is what the grammar has, and what it has is taken.
 use Rattle.std.specs.Prelude.{None, Option}
-use Rattle.std.proofs.Common.{◌≡◌, ◌∙◌, refl, List}
+use Rattle.std.proofs.Common.{arith, ◌≡◌, ◌∙◌, refl, List}
 use Rattle.tok_leaves.specs.declared.ident.Ident.{Ident}
 use Rattle.tok_leaves.specs.declared.punct.Spacing.{Spacing}
 use Rattle.tok_leaves.specs.declared.span.Span.{Span}
@@ -50,8 +50,7 @@ data Ends : Ahead → Type 0 where
 
 alone : (name : Ident) (b : Ahead) → Ends b → take_value take_arguments name b ≡ found (flag name) b
 unfolding punctuation_first group_first
-alone name _ (at_end c) = refl
-alone name _ (at_comma spacing span f c) = refl
+alone name b h = grind arith
 
 mutual
   unfolding punctuation_first group_first

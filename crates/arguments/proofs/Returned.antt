@@ -1,17 +1,17 @@
 -- What is returned has been taken, whatever invisible groups there are.
-use Rattle.std.proofs.Common.{◌≡◌, ◌∙◌, sym, ap, subst, refl, arith, ℕ, ◌<◌, true, false, not}
+use Rattle.std.proofs.Common.{◌≡◌, sym, subst, arith, ℕ, ◌<◌, true, false, not}
 use Rattle.std.proofs.Common.{List, [], ◌∷◌, ◌++◌, map, Ok, Err, inl, inr, append-nil}
 use Rattle.std.proofs.lemmas.List.{map-append}
 use Rattle.std.specs.Prelude.{IfOk, Result}
 use Rattle.tok_buffer.specs.Place.{is_at_end}
 use Rattle.tok_buffer.specs.View.{erased_ahead}
 use Rattle.tok_core.specs.Filled.{has_trees}
-use Rattle.tok_core.specs.Forest.{Forest, no_trees, tree}
+use Rattle.tok_core.specs.Forest.{Forest, no_trees}
 use Rattle.tok_core.specs.Weight.{weight}
 use Rattle.tok_leaves.specs.declared.span.Span.{Span}
 use Rattle.syn_parse.proofs.Failing.{stays_along, stays_here}
 use Rattle.syn_parse.proofs.Finished.{finish_takes_all}
-use Rattle.syn_parse.specs.Lighter.{lightens_lower, lowers_token}
+use Rattle.syn_parse.specs.Lighter.{lowers_token}
 use Rattle.syn_parse.specs.Parsers.{ParsesWhole, whole_stream}
 use Rattle.syn_parse.specs.Progress.{PunctuationTypeParses}
 use Rattle.syn_parse.specs.Reads.{Call}
@@ -37,11 +37,10 @@ use Rattle.arguments.specs.declared.argument.Argument.{Argument}
 
 -- something is left where less can follow
 pub left_before : (n : ℕ) (f : Forest) → n < weight f → not (not (has_trees f)) ≡ true
-left_before n no_trees l = absurd (omega (arith, l))
-left_before n (tree t f) l = refl
+left_before n f l = grind arith
 
 none_left : (f : Forest) → f ≡ no_trees → not (not (has_trees f)) ≡ false
-none_left f e = ap (λ g. not (not (has_trees g))) e
+none_left f e = grind arith
 
 -- A list that is returned, up to the end. Its values each take something.
 module _ {T P F A S : Type 0} (reads : ValueCall F T) (separates : Call P) (form : T → A)
@@ -86,12 +85,7 @@ module _ {T P F A S : Type 0} (reads : ValueCall F T) (separates : Call P) (form
         → values_of list ≡ map turn_value turns ++ more
         → separators_of list ≡ map turn_separator turns
         → lists.list_form form shape list ≡ (values turns ++ map form more, separators turns ++ [])
-    as_list turns more list h k =
-        ap (λ vs. (map form vs, map shape (separators_of list))) h
-        ∙ ap (λ vs. (vs, map shape (separators_of list)))
-        (map-append form (map turn_value turns) more)
-        ∙ ap (λ ps. (values turns ++ map form more, map shape ps)) k
-        ∙ ap (λ ps. (values turns ++ map form more, ps)) (sym (append-nil (separators turns)))
+    as_list turns more list h k = grind (arith, map-append, append-nil)
 
     module _ (f : F) (s t : State) (list : Punctuated T P)
         (ends : is_at_end t.place ≡ true → erased_ahead t.place ≡ no_trees) where
@@ -100,10 +94,7 @@ module _ {T P F A S : Type 0} (reads : ValueCall F T) (separates : Call P) (form
           → values_of list ≡ map turn_value turns ++ more
           → separators_of list ≡ map turn_separator turns
           → take_terminated value sign (ahead s) ≡ found (lists.list_form form shape list) (ahead t)
-      as_taken turns more h i j =
-          takes_list is_left is_left value sign (lightens_lower value low) lower (ahead s) (ahead t)
-          _ _ h
-          ∙ ap (λ x. found x (ahead t)) (sym (as_list turns more list i j))
+      as_taken turns more h i j = grind (arith, takes_list, as_list)
 
       ending_taken : (turns : List (Turn T P F)) (g : F) (u : State)
           → Chain terminated reads separates f s turns g u

@@ -1,11 +1,10 @@
-use Rattle.std.proofs.Common.{◌≡◌, refl, subst, sym, true, None}
+use Rattle.std.proofs.lemmas.Grind.{common_steps}
+use Rattle.std.proofs.Common.{arith, ◌≡◌, refl, true, None}
 use Rattle.std.proofs.lemmas.Bool.{false≢true}
 use Rattle.tok_buffer.proofs.ScopeEnds.{ends_scope}
-use Rattle.tok_buffer.specs.Cursors.{place_of}
 use Rattle.tok_buffer.specs.Place.{Place, at, empty_place, frame, is_at_end}
 use Rattle.tok_buffer.specs.Reads.{place_after, read_tree}
 use Rattle.tok_buffer.specs.Trees.{here}
-use Rattle.tok_buffer.specs.View.{erased_ahead}
 use Rattle.tok_core.specs.Forest.{no_trees, tree}
 use Rattle.arguments.proofs.read.ends_tell.Goals as goal
 
@@ -15,8 +14,4 @@ no_tree (at n s c (frame o p no_trees) ls) h = refl
 no_tree (at n s c (frame o p (tree t f)) ls) h = absurd (false≢true h)
 
 pub returns : goal.returns
-returns c h =
-    let ends = subst (λ q. is_at_end q ≡ true) (sym c.cursor.ensures) h in
-    subst (λ q. erased_ahead q ≡ no_trees) c.cursor.ensures
-    (ends_scope (place_of c.cursor.result) c.cursor.result here
-    (no_tree (place_of c.cursor.result) ends)).none_ahead
+returns c h = grind (arith, common_steps, ends_scope, here, no_tree)
