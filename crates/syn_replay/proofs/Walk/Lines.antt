@@ -15,7 +15,7 @@ use Rattle.syn_replay.specs.Commands as commands
 use Rattle.syn_replay.specs.Meanings.{IsAnswer, position_of}
 use Rattle.syn_replay.specs.Reports as reports
 use Rattle.syn_replay.specs.Reports.{missing, misused}
-use Rattle.syn_replay.specs.Session.Reading.{IsRead, Reads}
+use Rattle.syn_replay.specs.Session.Reading.{IsRead, AreReads}
 use Rattle.syn_replay.specs.Session.State.{AllStreams, Stream, parse_state, moved_to}
 use Rattle.syn_replay.specs.Session.State.{printed_position, is_open_at, kind_at, moved_as}
 use Rattle.syn_replay.specs.Session.State.{stream_at, with_stream}
@@ -56,7 +56,7 @@ pub line_by : {F : Type 0} (g : Once F (MutBor parse.State × Unit {0})
     → command_of k ≡ on n (commands.read r)
     → ((p q : MutBor parse.State) (x : Result Answer Fault) → g.post f (p, tt) (x, (q, tt))
     → IsRead r p.now x q.now)
-    → ((s : StreamRead) → Reads s (FnOnceReturnsAtMut g f)
+    → ((s : StreamRead) → AreReads s (FnOnceReturnsAtMut g f)
     → IfOk l (λ x. IsLine x new old (on n (commands.read s))))
     → IfOk l (λ x. IsLine x new old (command_of k))
 line_by g f r n k l new old e h said =

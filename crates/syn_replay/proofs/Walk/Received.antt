@@ -17,7 +17,7 @@ use Rattle.syn_replay.specs.Meanings.{IsPlain, line_of, verdict_of}
 use Rattle.syn_replay.specs.Reports as reports
 use Rattle.syn_replay.specs.Reports.{Report}
 use Rattle.syn_replay.specs.ReportText.{as_line, line_text, lines_text, report_text, verdict_text}
-use Rattle.syn_replay.specs.Session.Receivers.{GoesOn, Keeps, Writes}
+use Rattle.syn_replay.specs.Session.Receivers.{GoesOn, KeepsLine, Writes}
 use Rattle.syn_replay.specs.Session.State.{AllStreams, first_state}
 use Rattle.syn_replay.specs.Session.Step.{step}
 use Rattle.syn_replay.specs.Session.Promises.{ArePlain, AreReceived, IsLine}
@@ -62,7 +62,7 @@ module _ {R : Type 0} (receives : R → Command → Line → R → Type 0) (firs
 
 -- lines that are kept
 pub lines_kept : (st : AllStreams) (cs : List Command) (before after : Vec Line)
-    → AreReceived Keeps st cs before after → ArePlain before.items
+    → AreReceived KeepsLine st cs before after → ArePlain before.items
     → (map line_of after.items ≡ map line_of before.items ++ lines_from st (map command_of cs))
     × ArePlain after.items
 lines_kept st [] before after e plain =

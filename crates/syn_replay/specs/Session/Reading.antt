@@ -79,8 +79,9 @@ IsRead r s result t =
     × LeavesAt result t (moved (read_answer r s.place s.scope_span).1 s)
 
 -- each of these calls is this read
-abbrev pub Reads : StreamRead → (parse.State → Result Answer Fault → parse.State → Type 0) → Type 0
-Reads r calls = (s t : parse.State) (x : Result Answer Fault) → calls s x t → IsRead r s x t
+abbrev pub AreReads : StreamRead → (parse.State → Result Answer Fault → parse.State → Type 0)
+    → Type 0
+AreReads r calls = (s t : parse.State) (x : Result Answer Fault) → calls s x t → IsRead r s x t
 
 -- the rule of a list of this form
 abbrev pub rule_of : Form → ListRule

@@ -14,8 +14,8 @@ use Rattle.syn_replay.specs.declared.command.Command.{Command}
 use Rattle.syn_replay.specs.declared.report.Line.{Line}
 
 -- the line is kept, after those before
-abbrev pub Keeps : Vec Line → Command → Line → Vec Line → Type 0
-Keeps before c l after = after.items ≡ before.items ++ l ∷ []
+abbrev pub KeepsLine : Vec Line → Command → Line → Vec Line → Type 0
+KeepsLine before c l after = after.items ≡ before.items ++ l ∷ []
 
 module _ {W : Type 0} (took : W → List ℕ → W → Type 0) where
   -- the line and its line feed are written

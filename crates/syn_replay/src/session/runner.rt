@@ -2,7 +2,7 @@
 ghost use Rattle.std.specs.Prelude.{◌≡◌, OnOk, map};
 ghost use Rattle.syn_replay.specs.Commands.{command_of};
 ghost use Rattle.syn_replay.specs.Session.Promises.{AreReceived};
-ghost use Rattle.syn_replay.specs.Session.Receivers.{Keeps};
+ghost use Rattle.syn_replay.specs.Session.Receivers.{KeepsLine};
 ghost use Rattle.syn_replay.specs.Session.Streams.{state_of};
 ghost use Rattle.syn_replay.specs.Session.Walk.{last_state};
 ghost use Rattle.syn_replay.specs.declared.command.Command.{Command};
@@ -26,7 +26,7 @@ pub trait Receiver {
 
 /// Appends each line to the vector.
 impl Receiver for Vec<Line> {
-    ghost receives = { Keeps };
+    ghost receives = { KeepsLine };
 
     fn receive(&mut self, _: &Command, line: Line) -> Result<(), AllocError> {
         Ok(self.push(line)?)

@@ -6,7 +6,7 @@ ghost use Rattle.syn_parse.specs.Pauses.{paused_state};
 ghost use Rattle.syn_replay.specs.Commands as commands;
 ghost use Rattle.syn_replay.specs.Commands.{StreamRead};
 ghost use Rattle.syn_replay.specs.Meanings.{kind_of, position_of};
-ghost use Rattle.syn_replay.specs.Session.Reading.{Reads};
+ghost use Rattle.syn_replay.specs.Session.Reading.{AreReads};
 ghost use Rattle.syn_replay.specs.Session.State.{a_fork, printed_position, stream_from};
 ghost use Rattle.syn_replay.specs.Session.Step.{is_content, is_fork};
 ghost use Rattle.syn_replay.specs.Session.Stream.{IsReadLine, KeepsContents, stream_kind, stream_of};
@@ -125,7 +125,7 @@ impl<'a> Stream<'a> {
     where
         F: FnOnce(ParseStream<'_, 'a>) -> syn_parse::Result<Answer>,
         requires { F.IsAlwaysCallable read }
-        ensures line { (r : StreamRead) → Reads r (FnOnceReturnsAtMut F.FnOnce read)
+        ensures line { (r : StreamRead) → AreReads r (FnOnceReturnsAtMut F.FnOnce read)
             → IfOk result (λ l. IsReadLine r l (stream_of self.old) (stream_of self.new)) }
         ensures contents { KeepsContents self.old self.new }
     {

@@ -43,7 +43,7 @@ impl<'a> Streams<'a> {
     ghost use Rattle.syn_replay.specs.Session.Step.{is_unknown};
     ghost use Rattle.syn_replay.specs.Commands.{StreamRead, on};
     ghost use Rattle.syn_replay.specs.Meanings.{kind_of};
-    ghost use Rattle.syn_replay.specs.Session.Reading.{Reads};
+    ghost use Rattle.syn_replay.specs.Session.Reading.{AreReads};
     ghost use Rattle.syn_replay.specs.Session.Promises.{IsLine, IsMissed, IsOpen, IsStream};
     ghost use Rattle.syn_replay.specs.Session.Stream.{stream_of};
     ghost use Rattle.syn_replay.specs.Session.Rooms.{streams_room};
@@ -106,7 +106,7 @@ impl<'a> Streams<'a> {
     where
         F: FnOnce(ParseStream<'_, 'a>) -> syn_parse::Result<Answer>,
         requires { F.IsAlwaysCallable read }
-        ensures { (r : StreamRead) → Reads r (FnOnceReturnsAtMut F.FnOnce read)
+        ensures { (r : StreamRead) → AreReads r (FnOnceReturnsAtMut F.FnOnce read)
             → IfOk result
             (λ l. IsLine l (state_of self.new) (state_of self.old) (on n (commands.read r))) }
     {
