@@ -24,7 +24,7 @@ use Rattle.syn_parse.specs.Reads.{Call}
 use Rattle.syn_parse.specs.Sources.{OfRead, end_of_tokens}
 use Rattle.syn_parse.specs.State.{State}
 use Rattle.syn_parse.specs.Takes.{Taking, TakesAll}
-use Rattle.syn_parse.specs.Takings.{HasOneMessage, Keeps, KeepsBoth, KeepsVisible, KeepsWhole}
+use Rattle.syn_parse.specs.Takings.{HasOneMessage, Keeps, KeepsBoth, KeepsAllVisible, KeepsWhole}
 use Rattle.syn_parse.specs.Takings.{KeepsWords, Takings, stated, told, untold, unweighed}
 use Rattle.syn_parse.specs.declared.fault.Fault.{Fault}
 
@@ -65,7 +65,7 @@ module _ {T : Type 0} where
 pub text_keeps : {T : Type 0} (takes : Takings T) (number : ℕ) (text : List ℕ) (f : Forest)
     (end : Forest → Span) (s left : State) (returned result : Result T Fault)
     → ReadsForest Plain number text f → s ≡ whole_stream f (end f) → Keeps takes s returned left
-    → Finishes returned left result → KeepsVisible takes end f result
+    → Finishes returned left result → KeepsAllVisible takes end f result
 text_keeps takes number text f end s left returned result reads is h k = (
   all_visible 0 Plain number text f refl reads,
   whole_keeps takes f (end f) returned left result (rw is at h) k,
@@ -95,7 +95,7 @@ explained_once T text e (Err f) (span, words, shown, h) = (message_at span words
 module _ {T : Type 0} (number : ℕ) (end : Forest → Span)
     (fails : LexError → Result T Fault → Type 0) (once : FailsOnce T fails) where
   pub text_once : (takes : Takings T) (text : List ℕ) (r : Result T Fault)
-      → OfText number (KeepsVisible takes end) fails text r → HasOneMessage takes r
+      → OfText number (KeepsAllVisible takes end) fails text r → HasOneMessage takes r
   text_once takes text r h = grind (arith, all-once, given, premise)
 
 module _ {T : Type 0} (edition : Edition) (text : List ℕ) where

@@ -14,7 +14,7 @@ use Rattle.syn_parse.specs.Parsers.{FailsExplained, FailsToLex, OfText, ParsesWh
 use Rattle.syn_parse.specs.Parsers.{whole_stream}
 use Rattle.syn_parse.specs.Reads.{Call}
 use Rattle.syn_parse.specs.State.{State}
-use Rattle.syn_parse.specs.Takings.{KeepsVisible, KeepsWhole, Takings}
+use Rattle.syn_parse.specs.Takings.{KeepsAllVisible, KeepsWhole, Takings}
 use Rattle.syn_parse.specs.declared.fault.Fault.{Fault}
 
 -- the empty span at the end of a span; for the call site, the start of this source
@@ -43,7 +43,7 @@ ParsesTextOf number parses text =
 -- the text of a source keeps what is stated up to the end of its tokens
 abbrev pub KeepsTextOf : {T : Type 0} → ℕ → Takings T → List ℕ → Result T Fault → Type 0
 KeepsTextOf number takes text =
-    OfText number (KeepsVisible takes (end_of_tokens number)) (FailsExplained text) text
+    OfText number (KeepsAllVisible takes (end_of_tokens number)) (FailsExplained text) text
 
 -- what holds of the stream of a Rust source's tokens, if the source has any
 abbrev pub OnSource : Edition → (State → Type 0) → List ℕ → Type 0

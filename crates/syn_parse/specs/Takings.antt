@@ -124,10 +124,10 @@ HasOneMessage untold r = Unit {0}
 HasOneMessage takes r = IfErr r (λ f. MemoryOr f (Unit {0}))
 
 -- a visible forest, which keeps what is stated up to this end
-abbrev pub KeepsVisible : {T : Type 0} → Takings T → (end : Forest → Span) → Forest
+abbrev pub KeepsAllVisible : {T : Type 0} → Takings T → (end : Forest → Span) → Forest
     → Result T Fault → Type 0
-KeepsVisible takes end f r = IsAllVisible f × KeepsWhole takes f (end f) r
+KeepsAllVisible takes end f r = IsAllVisible f × KeepsWhole takes f (end f) r
 
 -- a text is parsed as source 0, up to an end at the call site, and keeps what is stated
 abbrev pub KeepsText : {T : Type 0} → Takings T → List ℕ → Result T Fault → Type 0
-KeepsText takes = OfText 0 (KeepsVisible takes (λ f. call_site)) (λ e. FailsWith (lex_message e))
+KeepsText takes = OfText 0 (KeepsAllVisible takes (λ f. call_site)) (λ e. FailsWith (lex_message e))
