@@ -50,13 +50,12 @@ pub fn read_commands(alloc: Global, lines: Option<&str>) -> Result<Vec<Command>,
         × (spec.unreadable_line (lines_left lines.entry) ≡ Some n))) }
 {
     let mut commands = Vec::new(alloc);
-    let mut scratch = Vec::new(alloc);
     let mut number = 0usize;
     let mut left = lines;
     while let Some(rest) = left {
         let (line, after) = first_line(rest);
         number += 1;
-        match read_line(alloc, line, &mut scratch) {
+        match read_line(alloc, line) {
             Ok(None) => {}
             Ok(Some(command)) => commands.push(command)?,
             Err(LineFault::Unreadable) => {
@@ -70,11 +69,7 @@ pub fn read_commands(alloc: Global, lines: Option<&str>) -> Result<Vec<Command>,
 }
 
 // Reads the command of a line, or `None` of a line without words.
-fn read_line(
-    alloc: Global,
-    line: &str,
-    scratch: &mut Vec<Look>,
-) -> Result<Option<Command>, LineFault>
+fn read_line(alloc: Global, line: &str) -> Result<Option<Command>, LineFault>
     ensures { MatchResult result
         (λ c. (spec.is_unreadable line.now ≡ false)
         × (spec.command (spec.words line.now) ≡ option_map command_of c))
@@ -83,18 +78,13 @@ fn read_line(
     let Some((name, rest)) = first_word(line) else {
         return Ok(None);
     };
-    match read_command(alloc, name, rest, scratch)? {
+    match read_command(alloc, name, rest)? {
         None => Err(LineFault::Unreadable),
         Some(command) => Ok(Some(command)),
     }
 }
 
-fn read_command(
-    alloc: Global,
-    name: &str,
-    rest: &str,
-    scratch: &mut Vec<Look>,
-) -> Result<Option<Command>, AllocError>
+fn read_command(alloc: Global, name: &str, rest: &str) -> Result<Option<Command>, AllocError>
     ensures { IfOk result
         (λ c. option_map command_of c ≡ spec.command (name.now ∷ spec.words rest.now)) }
 {
@@ -105,49 +95,51 @@ fn read_command(
         return Ok(None);
     };
     if name == "lookahead" {
-        lookahead(alloc, n, rest, scratch)
+        lookahead(alloc, n, rest)
     } else {
         Ok(command_named(name, n, rest))
     }
 }
 
-fn lookahead(
-    alloc: Global,
-    n: usize,
-    rest: &str,
-    scratch: &mut Vec<Look>,
-) -> Result<Option<Command>, AllocError>
+fn lookahead(alloc: Global, n: usize, rest: &str) -> Result<Option<Command>, AllocError>
     ensures { IfOk result
         (λ c. option_map command_of c
         ≡ option_map (λ ls. spec.reads n (commands.lookahead ls))
         (spec.all_looks (spec.words rest.now))) }
 {
-    match looks(alloc, rest, scratch)? {
+    match looks(alloc, rest)? {
         None => Ok(None),
         Some(looks) => Ok(Some(Command::Lookahead(n, looks))),
     }
 }
 
-// Reads a line of looks, or returns `None` if a word is no look. The looks are gathered in
-// `scratch`, whose contents are lost, so that they get a vector of just their number.
-fn looks(
-    alloc: Global,
-    line: &str,
-    scratch: &mut Vec<Look>,
-) -> Result<Option<Vec<Look>>, AllocError>
+// Reads a line of looks, or returns `None` if a word is no look.
+fn looks(alloc: Global, line: &str) -> Result<Option<Vec<Look>>, AllocError>
     ensures { IfOk result
         (λ o. option_map (λ v. map look_of v.items) o ≡ spec.all_looks (spec.words line.now)) }
 {
-    scratch.clear();
+    let mut looks = Vec::with_capacity(alloc, most_words(line))?;
     let mut rest = line;
     while let Some((word, after)) = first_word(rest) {
         let Some(look) = look(word) else {
             return Ok(None);
         };
-        scratch.push(look)?;
+        looks.push(look)?;
         rest = after;
     }
-    Ok(Some(Vec::from_slice(alloc, scratch)?))
+    Ok(Some(looks))
+}
+
+// Returns how many words a line has if single spaces separate them, and more otherwise. A command
+// keeps the vector of its looks, which so gets room for just them, and in one allocation.
+fn most_words(line: &str) -> usize {
+    let mut words = usize::from(!line.is_empty());
+    for byte in line.bytes() {
+        if byte == b' ' {
+            words = words.saturating_add(1);
+        }
+    }
+    words
 }
 
 fn command_named(name: &str, n: usize, rest: &str) -> Option<Command>

@@ -69,9 +69,9 @@ pub fn bad(alloc: Global, count: usize, bytes: usize) -> Outcome {
     responded(alloc, input.as_str(), 2)
 }
 
-/// Answers `count` lookaheads, each for `bytes` targets.
-pub fn looks(alloc: Global, count: usize, bytes: usize) -> Outcome {
-    let looks = times(alloc, " End", bytes)?;
+/// Answers `count` lookaheads, each for so many targets.
+pub fn looks(alloc: Global, count: usize, targets: usize) -> Outcome {
+    let looks = times(alloc, " End", targets)?;
     let mut input = times(alloc, "---\n", 1)?;
     for _ in 0..count {
         made(input.push_str("lookahead 0"))?;

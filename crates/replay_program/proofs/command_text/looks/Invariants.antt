@@ -8,7 +8,7 @@ use Rattle.replay_program.proofs.command_text.looks.Given as goal
 
 abbrev pub invariant-loop-word : goal.invariant-loop-word
 invariant-loop-word l =
-    shadow (Utf8 l.rest) × (option_map (λ ls. map look_of l.scratch.items ++ ls)
+    shadow (Utf8 l.rest) × (option_map (λ ls. map look_of l.looks.items ++ ls)
     (all_looks (words l.rest)) ≡ all_looks (words l.line))
 
 abbrev pub decreases-loop-word : goal.decreases-loop-word
