@@ -1,10 +1,11 @@
 -- Pieces, streams and lines compared one by one.
-use Rattle.std.proofs.Common.{suc, Bool, ◌≡◌, ap, ap₂, refl, ◌∙◌, sym, List, [], ◌∷◌, length}
+use Rattle.std.proofs.Common.{suc, Bool, ◌≡◌, ap, refl, ◌∙◌, sym, List, [], ◌∷◌, length}
 use Rattle.std.specs.Prelude.{◌↔◌, true}
 use Rattle.tok_core.specs.declared.stream.TokenTree.{TokenTree}
 use Rattle.tok_core.specs.Forest.{Tree, Forest, tree}
 use Rattle.tok_core.specs.Seen.{tree_of, trees_of}
 use Rattle.syn_replay.proofs.Comparing.{Compares}
+use Rattle.std.proofs.Common.{rules}
 
 first_trees : (t u : Tree) (f g : Forest) → tree t f ≡ tree u g → (t ≡ u) × (f ≡ g)
 first_trees t u f g e = (cc, cc)
@@ -19,15 +20,7 @@ same_lengths (x ∷ xs) (y ∷ ys) e =
 
 pub compares_trees : Compares (λ (xs ys : List TokenTree). trees_of xs ≡ trees_of ys)
     (λ x y. tree_of x ≡ tree_of y)
-compares_trees = record {
-  none = refl;
-  more =
-      λ x y xs ys. (
-        λ e. first_trees (tree_of x) (tree_of y) (trees_of xs) (trees_of ys) e,
-        λ h. ap₂ tree h.0 h.1,
-      );
-  lengths = same_lengths;
-}
+compares_trees = search (rules, first_trees, same_lengths)
 
 -- of two streams, by the lists of their trees
 pub of_streams : (b : Bool) (xs ys : List TokenTree) (f g : Forest) → trees_of xs ≡ f

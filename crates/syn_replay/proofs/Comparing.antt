@@ -1,6 +1,6 @@
 -- Two lists compared item by item.
 use Rattle.std.proofs.Common.{◌≡◌, ℕ, ◌+◌, ◌<◌, false, List, [], ◌∷◌, length, drop}
-use Rattle.std.proofs.Common.{get_or, sym, ap, ◌∙◌, arith}
+use Rattle.std.proofs.Common.{get_or, arith}
 use Rattle.std.proofs.lemmas.Bool.{false≢true}
 use Rattle.std.proofs.lemmas.List.{drop_more}
 use Rattle.std.specs.Prelude.{◌↔◌, true}
@@ -23,15 +23,12 @@ module _ {A : Type 0} (P : List A → List A → Type 0) (R : A → A → Type 0
 
   first : (i : ℕ) (zs : List A) (z : A) → i < length zs → z ≡ get_or zs i z
       → drop i zs ≡ z ∷ drop (i + 1) zs
-  first i zs z l e =
-      drop_more zs i z l ∙ ap (λ u. u ∷ drop (i + 1) zs) (sym e)
+  first i zs z l e = grind (arith, drop_more)
 
   module _ (i : ℕ) (xs ys : List A) (x y : A) (h : i < length xs) (s : Undecided P i xs ys)
       (a : x ≡ get_or xs i x) (b : y ≡ get_or ys i y) where
     one_more : P (drop i xs) (drop i ys) ↔ (R x y × P (drop (i + 1) xs) (drop (i + 1) ys))
-    one_more =
-        rw (first i xs x h a, first i ys y (omega (arith, h, s.lengths)) b)
-        (c.more x y (drop (i + 1) xs) (drop (i + 1) ys))
+    one_more = grind (arith, first)
 
     pub goes_on : R x y → Undecided P (i + 1) xs ys
     goes_on r = record {

@@ -1,6 +1,6 @@
 -- No list parser runs out of turns: more than are allowed change nothing.
-use Rattle.std.proofs.Common.{◌≡◌, ap, refl, ℕ, zero, suc, ◌+◌, ◌≤◌, cond, List, [], ◌∷◌, length}
-use Rattle.std.proofs.Common.{Option, Some, None, arith, le_refl}
+use Rattle.std.proofs.Common.{◌≡◌, ap, ℕ, zero, suc, ◌+◌, ◌≤◌, cond, List, [], ◌∷◌, length}
+use Rattle.std.proofs.Common.{Option, arith, le_refl}
 use Rattle.tok_leaves.specs.declared.span.Span.{Span}
 use Rattle.tok_core.specs.Forest.{Tree}
 use Rattle.tok_buffer.specs.Ahead.{marked_ahead}
@@ -13,8 +13,8 @@ use Rattle.syn_parse.specs.State.{fresh}
 use Rattle.syn_replay.proofs.Views.KindReads.{of_kind}
 use Rattle.syn_replay.specs.Reports.{Piece}
 use Rattle.syn_replay.specs.Turns.{ListOutcome, read_all, refused_at, with_parts, is_later, no_progress_at}
-use Rattle.syn_replay.specs.Turns.{after_read, after_value, pieces_of, ListRule, is_over, without_separator}
-use Rattle.syn_replay.specs.Turns.{turns, turns_left, MoreTurnsChangeNothing}
+use Rattle.syn_replay.specs.Turns.{after_read, after_value, ListRule, is_over, without_separator}
+use Rattle.syn_replay.specs.Turns.{turns, MoreTurnsChangeNothing}
 
 -- as many turns as there are visible trees ahead, and one more
 abbrev IsEnough : ℕ → Place → Type 0
@@ -26,8 +26,7 @@ after_fewer : (p : Place) (u : ListOutcome) (a b : List Piece → Place → List
     → ((x : List Piece) (q : Place) → length (marked_ahead q) + 1 ≤ length (marked_ahead p)
     → a x q ≡ b x q)
     → after_read u a r ≡ after_read u b r
-after_fewer p u a b None h e = refl
-after_fewer p u a b (Some r) h e = e (pieces_of r.0) r.1 h
+after_fewer a0 a1 a2 a3 a4 a5 a6 = grind arith
 
 module _ (kind : Kind) (separator : List ℕ) (scope : Span) where
   more_turns : (n m : ℕ) (a b : Place → ListOutcome)
@@ -61,5 +60,4 @@ module _ (kind : Kind) (separator : List ℕ) (scope : Span) where
         (omega (arith, k, f)))))
 
 pub more_turns_change_nothing : MoreTurnsChangeNothing
-more_turns_change_nothing kind separator scope rule n p h =
-    enough-turns kind separator scope rule n (turns_left p) p h (le_refl (turns_left p))
+more_turns_change_nothing kind separator scope rule n p h = grind (arith, enough-turns, le_refl)

@@ -1,5 +1,5 @@
 -- Reads, peeks and errors agree at places with equal views.
-use Rattle.std.proofs.Common.{◌≡◌, ◌∙◌, ap, refl, ℕ, Bool, true, is_some, List, Option, Some, None}
+use Rattle.std.proofs.Common.{◌≡◌, refl, ℕ, Bool, true, is_some, List, Option, Some, None}
 use Rattle.std.specs.Prelude.{codes, ◌++◌}
 use Rattle.tok_lexical.specs.declared.delimiter.Delimiter.{Delimiter}
 use Rattle.tok_lexical.specs.declared.delimiter.Delimiter.TheVariants.{Parenthesis, Brace, Bracket}
@@ -7,7 +7,7 @@ use Rattle.tok_core.specs.Forest.{Tree}
 use Rattle.tok_buffer.specs.Buffer.{Laid}
 use Rattle.tok_buffer.specs.Entry.{Entered, enter}
 use Rattle.tok_buffer.specs.Place.{Place}
-use Rattle.tok_buffer.specs.Reads.{skip, any_text, read_ident, read_lifetime}
+use Rattle.tok_buffer.specs.Reads.{any_text, read_ident, read_lifetime}
 use Rattle.tok_buffer.specs.View.{IsVisibleDelimiter}
 use Rattle.tok_buffer.proofs.View.Alike.{Alike, ReadsAlike, PlacesAlike, EntriesAlike}
 use Rattle.tok_buffer.proofs.View.Alike.{alike-reading, alike-skip, alike-end, alike-enter}
@@ -20,6 +20,7 @@ use Rattle.syn_replay.specs.Kinds.{read, peek_kind, Look, kind, paren, brace, br
 use Rattle.syn_replay.specs.Kinds.{invisible_group, group_tree, any_tree, peek, peek2, peek3}
 use Rattle.syn_replay.specs.Kinds.{peek_past, ignores_invisible, refused_words, kind_missing}
 use Rattle.syn_replay.proofs.Views.KindReads.{of_kind}
+use Rattle.std.proofs.Common.{rules}
 
 module _ (f g : Laid) where
   pub alike-kind : (k : Kind) (p q : Place) → Alike f g p q → ReadsAlike f g (read k p) (read k q)
@@ -66,13 +67,11 @@ module _ (f g : Laid) where
 
   pub alike-peek2 : (l : Look) → ignores_invisible l ≡ true → (p q : Place) → Alike f g p q
       → peek2 l p ≡ peek2 l q
-  alike-peek2 l e p q h =
-      alike-past (peek l) (alike-peek l e) (skip p) (skip q) (alike-skip f g p q h)
+  alike-peek2 l e p q h = search (rules, alike-past, alike-peek, alike-skip)
 
   pub alike-peek3 : (l : Look) → ignores_invisible l ≡ true → (p q : Place) → Alike f g p q
       → peek3 l p ≡ peek3 l q
-  alike-peek3 l e p q h =
-      alike-past (peek2 l) (alike-peek2 l e) (skip p) (skip q) (alike-skip f g p q h)
+  alike-peek3 l e p q h = search (rules, alike-past, alike-peek2, alike-skip)
 
   -- The words of errors.
   abbrev name_words : List Tree → List ℕ
@@ -93,9 +92,7 @@ module _ (f g : Laid) where
 
   refused-both : (s t : parse.State) (w v : List ℕ) → w ≡ v → Alike f g s.place t.place
       → (refused_at s w).text ≡ (refused_at t v).text
-  refused-both s t w v e h =
-      alike-at_stream f g s.place t.place s.scope_span t.scope_span w h
-      ∙ ap (λ x. (refused_at t x).text) e
+  refused-both s t w v e h = cc (alike-at_stream f g s.place t.place s.scope_span t.scope_span w h)
 
   pub alike-kind_missing : (k : Kind) (s t : parse.State) → Alike f g s.place t.place
       → (kind_missing k s).text ≡ (kind_missing k t).text

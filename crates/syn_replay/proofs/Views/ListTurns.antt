@@ -1,11 +1,11 @@
 -- List parsers at places with equal views.
-use Rattle.std.proofs.Common.{◌≡◌, ◌∙◌, ap, refl, ℕ, zero, suc, ◌+◌, ◌&&◌}
+use Rattle.std.proofs.Common.{◌≡◌, ap, refl, ℕ, zero, suc}
 use Rattle.std.proofs.Common.{nat_lt, true, List, [], ◌∷◌, ◌++◌, Option, Some, None}
 use Rattle.std.proofs.lemmas.Bool.{lt-ltb}
 use Rattle.tok_leaves.specs.declared.span.Span.{Span}
 use Rattle.tok_core.specs.Forest.{Tree}
 use Rattle.tok_buffer.specs.Buffer.{Laid}
-use Rattle.tok_buffer.specs.Place.{Place, empty_place, at}
+use Rattle.tok_buffer.specs.Place.{Place}
 use Rattle.tok_buffer.specs.Reads.{read_punctuation}
 use Rattle.tok_buffer.specs.declared.error.Message.{Message}
 use Rattle.tok_buffer.proofs.Onwards.{GoesOn, keeps_scope, later_count, lies_nowhere, reading_goes}
@@ -23,6 +23,7 @@ use Rattle.syn_replay.specs.Turns.{ListOutcome, read_all, refused_at, with_parts
 use Rattle.syn_replay.specs.Turns.{after_read, after_value, next_turn, pieces_of, without_separator}
 use Rattle.syn_replay.specs.Turns.{ListRule, terminated, separated, is_over, turns, turns_left}
 use Rattle.syn_replay.proofs.Views.Choices.{either}
+use Rattle.std.proofs.Common.{arith}
 
 -- each read leads to a later place of the same scope
 later-read : (k : Kind) (p : Place) → LeadsTo (GoesOn p) (read k p)
@@ -33,11 +34,7 @@ later-separator : (s : List ℕ) (p v : Place) → GoesOn p v
 later-separator s p v h = then_goes (of_punctuation s) p v h
 
 is_later_there : (p q : Place) → GoesOn p q → is_later p q ≡ true
-is_later_there empty_place q h = absurd (lies_nowhere q h)
-is_later_there (at n s c l ls) empty_place h = refl
-is_later_there (at n s c l ls) (at m t d k ks) h =
-    ap (λ b. b && nat_lt c d) (keeps_scope (at n s c l ls) (at m t d k ks) h)
-    ∙ lt-ltb c d (later_count n s c m t d l k ls ks h)
+is_later_there a0 a1 a2 = grind (arith, lies_nowhere, nat_lt, keeps_scope, lt-ltb, later_count)
 
 module _ (f g : Laid) where
   pub data OutcomesAlike : ListOutcome → ListOutcome → Type 0 where
@@ -120,5 +117,4 @@ module _ (f g : Laid) where
 
   -- as many turns are allowed at both places
   pub alike-turns_left : (p q : Place) → Alike f g p q → turns_left p ≡ turns_left q
-  alike-turns_left p q h =
-      ap (λ k. k + 1) (same_length f.forest g.forest p q h.same)
+  alike-turns_left p q h = grind (arith, same_length)

@@ -10,7 +10,6 @@ use Rattle.tok_core.specs.Forest.{Tree}
 use Rattle.tok_leaves.specs.Spans.{closing_span}
 use Rattle.tok_buffer.specs.Buffer.{Laid}
 use Rattle.tok_buffer.specs.Entry.{Entered}
-use Rattle.tok_buffer.specs.Entry as entry
 use Rattle.tok_buffer.specs.Order.{same_scope}
 use Rattle.tok_buffer.specs.Place.{Place, empty_place}
 use Rattle.tok_buffer.proofs.View.Alike.{Alike, ReadsAlike, EntriesAlike, alike-end, alike-scope}
@@ -18,7 +17,6 @@ use Rattle.tok_buffer.proofs.View.Alike.{alike-enter}
 use Rattle.tok_buffer.specs.View.{IsVisibleDelimiter}
 use Rattle.syn_replay.specs.Kinds.{Kind, Look, read, peek, peek_kind, display, ignores_invisible}
 use Rattle.syn_replay.specs.Kinds.{kind_missing}
-use Rattle.syn_parse.specs.ErrorWords.{delimiter_words}
 use Rattle.syn_parse.specs.State.{fresh}
 use Rattle.syn_parse.proofs.SameWords.{alike-at_stream, alike-look}
 use Rattle.syn_replay.proofs.Views.KindsAlike.{alike-kind, alike-peek, alike-peek2, alike-peek3}
@@ -47,6 +45,8 @@ use Rattle.syn_replay.proofs.Views.Streams.{alike-length, alike-append, alike-wi
 use Rattle.syn_replay.proofs.Views.Streams.{alike-moved, alike-closed, alike-advanced, alike-ended}
 use Rattle.syn_replay.proofs.Views.Choices.{either}
 use Rattle.syn_replay.proofs.Walk.Inner.{same_inside}
+use Rattle.std.proofs.Common.{arith}
+use Rattle.std.proofs.Common.{rules}
 
 module _ (f g : Laid) where
   pub record StepsAlike (a b : Stepped) : Type 0 where
@@ -111,8 +111,7 @@ module _ (f g : Laid) where
       (i : StreamsAlike f g s t) where
     moves_alike : (p q : Place) → Alike f g p q
         → StatesAlike f g (with_stream st k (moved_to p)) (with_stream su k (moved_to q))
-    moves_alike p q j =
-        alike-with_stream f g st su k (moved_to p) (moved_to q) (alike-moved f g p q j) h
+    moves_alike p q j = search (rules, alike-with_stream, alike-moved)
 
     alike-into : (words : List ℕ) (a b : Option Entered) → EntriesAlike f g a b
         → StepsAlike (into_group st k s words a) (into_group su k t words b)
@@ -145,15 +144,11 @@ module _ (f g : Laid) where
 
     alike-enters : (d : Delimiter) → IsVisibleDelimiter d
         → StepsAlike (on_stream (enter (Some d)) st k s) (on_stream (enter (Some d)) su k t)
-    alike-enters d v =
-        alike-into (delimiter_words d) (entry.enter d s.place) (entry.enter d t.place)
-        (alike-enter f g s.place t.place i.place d v)
+    alike-enters d v = search (rules, alike-into, alike-enter)
 
     same-fork : (m : ℕ) → same_scope s.place (stream_at st m).place
         ≡ same_scope t.place (stream_at su m).place
-    same-fork m =
-        alike-scope f g s.place t.place i.place (stream_at st m).place (stream_at su m).place
-        (alike-at f g st su m h).place
+    same-fork m = grind (arith, alike-scope, alike-at)
 
     alike-on_stream : (a : Action) → is_transparent_action a ≡ true
         → StepsAlike (on_stream a st k s) (on_stream a su k t)

@@ -15,6 +15,7 @@ use Rattle.syn_replay.specs.Session.State.{spent_if, recording, recording_on_par
 use Rattle.syn_replay.specs.Session.State.{kind_at, stream_at, is_entered_from, ended_from}
 use Rattle.syn_replay.specs.Session.State.{stream_ended, left_from, reported, gathered}
 use Rattle.syn_replay.specs.Session.State.{content_closed, moved_to_fork}
+use Rattle.std.proofs.Common.{rules}
 
 -- a leftover is compared by its span alone
 abbrev pub span_of : Option Leftover → Option Span
@@ -70,8 +71,7 @@ module _ (f g : Laid) where
   alike-moved p q h s t k = record { place = h; same = k.same; recorded = k.recorded }
 
   alike-spent : ChangesAlike spent spent
-  alike-spent s t k =
-      record { place = k.place; same = ap spent k.same; recorded = k.recorded }
+  alike-spent s t k = search rules
 
   recorded-or : (a b n m : Option Leftover) → span_of a ≡ span_of b → span_of n ≡ span_of m
       → span_of (option_or a n) ≡ span_of (option_or b m)
@@ -82,11 +82,7 @@ module _ (f g : Laid) where
 
   alike-recording : (n m : Option Leftover) → span_of n ≡ span_of m
       → ChangesAlike (recording n) (recording m)
-  alike-recording n m e s t k = record {
-    place = k.place;
-    same = k.same;
-    recorded = recorded-or s.recorded t.recorded n m k.recorded e;
-  }
+  alike-recording n m e s t k = search (rules, recorded-or)
 
   -- Closing.
   alike-on_parent : (k : StreamKind) (n m : Option Leftover) (st su : AllStreams)
@@ -118,9 +114,7 @@ module _ (f g : Laid) where
 
   alike-gathered : (st su : AllStreams) → StatesAlike st su → (k : ℕ)
       → StreamsAlike (gathered st k) (gathered su k)
-  alike-gathered st su h k =
-      alike-recording _ _ (alike-left k 0 st su h) (stream_at st k) (stream_at su k)
-      (alike-at st su k h)
+  alike-gathered st su h k = search (rules, alike-recording, alike-left, alike-at)
 
   pub alike-reported : (st su : AllStreams) → StatesAlike st su → (k : ℕ)
       → span_of (reported st k) ≡ span_of (reported su k)

@@ -10,11 +10,12 @@ use Rattle.syn_replay.specs.Agree.{LinesAgree, VerdictsAgree}
 use Rattle.syn_replay.specs.Commands.{Command}
 use Rattle.syn_replay.specs.Transparent.{is_transparent, all_transparent, DifferInInvisibleGroups}
 use Rattle.syn_replay.specs.Transparent.{InvisibleGroupsDoNotMatter}
-use Rattle.syn_replay.specs.Session.State.{AllStreams, first_state, reported}
+use Rattle.syn_replay.specs.Session.State.{AllStreams, first_state}
 use Rattle.syn_replay.specs.Session.Step.{step}
 use Rattle.syn_replay.specs.Session.Walk.{lines_from, last_state, verdict, verdict_on}
 use Rattle.syn_replay.proofs.Views.Steps.{alike-step}
 use Rattle.syn_replay.proofs.Views.Streams.{StatesAlike, none, more, span_of, alike-reported}
+use Rattle.std.proofs.Common.{arith}
 
 module _ (f g : Laid) where
   lines-agree : (cs : List Command) → all_transparent cs ≡ true → (st su : AllStreams)
@@ -43,8 +44,7 @@ module _ (f g : Laid) where
 
   verdicts-agree : (st su : AllStreams) → StatesAlike f g st su
       → VerdictsAgree (verdict st) (verdict su)
-  verdicts-agree st su h =
-      left-agree (reported st 0) (reported su 0) (alike-reported f g st su h 0)
+  verdicts-agree st su h = grind (arith, left-agree, alike-reported)
 
 -- a forest under the buffer number of a walk
 abbrev laid : Forest → Laid

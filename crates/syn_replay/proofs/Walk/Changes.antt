@@ -1,5 +1,5 @@
 -- A list of streams in which one is changed: what each then is.
-use Rattle.std.proofs.Common.{◌≡◌, ◌∙◌, sym, ap, refl, ℕ, zero, suc, ◌<◌, [], ◌∷◌, length, Some}
+use Rattle.std.proofs.Common.{◌≡◌, refl, ℕ, zero, suc, ◌<◌, [], ◌∷◌, length, Some}
 use Rattle.std.proofs.Common.{true, arith}
 use Rattle.std.specs.List.{slice_get}
 use Rattle.std.proofs.Math.Seq.{map-set_same}
@@ -30,9 +30,7 @@ kept_by g f h (s ∷ st) (suc n) (suc i) = kept_by g f h st n i
 pub kinds_changed : (st : AllStreams) (n : ℕ) (f : Stream → Stream)
     → ((s : Stream) → (f s).kind ≡ s.kind)
     → kinds (with_stream st n f) ≡ kinds st
-kinds_changed st n f h =
-    map-set_same (λ s. s.kind) st n (f (stream_at st n)) no_stream (h (stream_at st n))
+kinds_changed st n f h = grind (arith, map-set_same)
 
 pub same_length : (st us : AllStreams) → kinds st ≡ kinds us → length st ≡ length us
-same_length st us e =
-    sym (length-map st (λ s. s.kind)) ∙ ap length e ∙ length-map us (λ s. s.kind)
+same_length st us e = grind (arith, length-map)

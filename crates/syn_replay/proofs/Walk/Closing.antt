@@ -1,18 +1,19 @@
 -- A stream is closed into its parent, and a stream advances to a fork.
-use Rattle.std.proofs.Common.{◌≡◌, ◌∙◌, sym, ap, ap₂, refl, ℕ, Bool, true}
-use Rattle.std.specs.Prelude.{◌&&◌, not, cond}
+use Rattle.std.proofs.Common.{◌≡◌, refl, ℕ, Bool, true}
+use Rattle.std.specs.Prelude.{◌&&◌, not}
 use Rattle.syn_parse.specs.State as parse
 use Rattle.tok_buffer.specs.Order.{same_scope}
 use Rattle.tok_buffer.specs.Place.{Place}
 use Rattle.syn_replay.specs.Commands.{advance}
-use Rattle.syn_replay.specs.Reports.{done, misused}
-use Rattle.syn_replay.specs.declared.report.Misuse.TheVariants.{OutOfScope}
-use Rattle.syn_replay.specs.Session.Step.{Stepped, on_stream, unmoved}
+use Rattle.syn_replay.specs.Reports.{done}
+use Rattle.syn_replay.specs.Session.Step.{Stepped, on_stream}
 use Rattle.syn_replay.specs.Session.State.{AllStreams, content_of, content_closed, gathered}
-use Rattle.syn_replay.specs.Session.State.{reported, is_open_at, is_or_inside, kind_at, moved_as, moved_to_fork}
-use Rattle.syn_replay.specs.Session.State.{parse_state, stream_at, stream_ended, recording_on_parent}
+use Rattle.syn_replay.specs.Session.State.{is_open_at, is_or_inside, kind_at, moved_as, moved_to_fork}
+use Rattle.syn_replay.specs.Session.State.{parse_state, stream_at, stream_ended}
 use Rattle.syn_replay.specs.Session.State.{with_stream}
 use Rattle.syn_replay.proofs.Walk.Changes.{kept_by}
+use Rattle.std.proofs.Common.{arith}
+use Rattle.std.proofs.Common.{rules}
 
 -- a stream that is moved elsewhere stays open
 pub open_moved : (st : AllStreams) (p k : ℕ) (t : parse.State)
@@ -25,25 +26,19 @@ module _ (st : AllStreams) (k : ℕ) where
       → content ≡ parse_state (gathered st k)
       → t ≡ parse.closed content (parse_state (stream_at st p))
       → stream_ended k (with_stream st p (moved_as t)) ≡ content_closed k st
-  closes_into p content t kind c e =
-      ap (λ z. stream_ended k (with_stream st p (moved_as z)))
-      (e ∙ ap (λ z. parse.closed z (parse_state (stream_at st p))) c)
-      ∙ ap (λ z. stream_ended k (recording_on_parent z (reported st k) st)) (sym kind)
+  closes_into p content t kind c e = grind arith
 
   pub advances_to : (n : ℕ) (content t : parse.State) → content ≡ parse_state (gathered st k)
       → t ≡ parse.advanced content (parse_state (stream_at st n))
       → stream_ended k (with_stream st n (moved_as t)) ≡ moved_to_fork n k st
-  advances_to n content t c e =
-      ap (λ z. stream_ended k (with_stream st n (moved_as z)))
-      (e ∙ ap (λ z. parse.advanced z (parse_state (stream_at st n))) c)
+  advances_to n content t c e = grind arith
 
 -- the test of an advance, and what it decides
 module _ (st : AllStreams) (n f : ℕ) where
   pub scope_found : (input other : parse.State) → input ≡ parse_state (stream_at st n)
       → other ≡ parse_state (gathered st f) → (p q : Place) → p ≡ input.place → q ≡ other.place
       → same_scope (stream_at st n).place (stream_at st f).place ≡ same_scope p q
-  scope_found input other e g p q a b =
-      sym (ap₂ same_scope (a ∙ ap (λ z. z.place) e) (b ∙ ap (λ z. z.place) g))
+  scope_found input other e g p q a b = grind arith
 
   abbrev pub may_advance : Bool
   may_advance =
@@ -54,7 +49,4 @@ module _ (st : AllStreams) (n f : ℕ) where
 
   pub advance_taken : (new : AllStreams) → may_advance ≡ true → new ≡ moved_to_fork n f st
       → ((done ≡ stepped.answer) × Unit {0}) × (new ≡ stepped.state)
-  advance_taken new e is =
-      let all = ap (λ c. cond c (record { answer = done; state = moved_to_fork n f st })
-      (unmoved st (misused OutOfScope))) e in
-      ((sym (ap (λ z. z.answer) all), tt), is ∙ sym (ap (λ z. z.state) all))
+  advance_taken new e is = search rules

@@ -5,7 +5,7 @@ use Rattle.std.proofs.lemmas.Bool.{cases_lt, eqb-true, eq-eqb, ne_eqb, or_from, 
 use Rattle.std.proofs.Math.ListN.{get_or-map}
 use Rattle.std.proofs.lemmas.List.{drop_all, drop_more, get_or-drop, length-drop, length-map}
 use Rattle.std.specs.Prelude.{cond, ◌==◌, ◌||◌, ◌&&◌}
-use Rattle.syn_replay.specs.Session.State.{AllStreams, StreamKind, outermost, content_of, a_fork}
+use Rattle.syn_replay.specs.Session.State.{AllStreams, StreamKind, outermost, content_of}
 use Rattle.syn_replay.specs.Session.State.{is_content_of, kind_at, kinds, no_stream}
 use Rattle.syn_replay.specs.Session.Links.{contents, contents_by_kind}
 
@@ -15,9 +15,7 @@ is_among [] i = false
 is_among (k ∷ ks) i = (i == k) || is_among ks i
 
 pub content_is : (kind : StreamKind) (p : ℕ) → is_content_of p kind ≡ true → kind ≡ content_of p
-content_is outermost p h = cc
-content_is (content_of r) p h = ap content_of (eqb-true r p h)
-content_is a_fork p h = cc
+content_is a0 a1 a2 = grind (arith, eqb-true)
 
 -- what is left of the kinds from a number on
 from_there : (st : AllStreams) (n : ℕ) → n < length st
@@ -33,9 +31,7 @@ pub contents_at : (k n : ℕ) (st : AllStreams) → n < length st
 contents_at k n st h = ap (contents_by_kind k n) (from_there st n h)
 
 pub contents_past : (k n : ℕ) (st : AllStreams) → length st ≤ n → contents k n st ≡ []
-contents_past k n st h =
-    ap (contents_by_kind k n)
-    (drop_all n (kinds st) (omega (arith, h, length-map st (λ s. s.kind))))
+contents_past k n st h = grind (arith, drop_all, length-map)
 
 -- the contents listed are later streams
 listed_within : (k n : ℕ) (ks : List StreamKind) (index i : ℕ)
@@ -52,21 +48,14 @@ listed_within k n (kind ∷ ks) (suc j) i h e =
 pub contents_within : (k : ℕ) (st : AllStreams) (index i : ℕ)
     → index < length (contents k (k + 1) st) → i ≡ get_or (contents k (k + 1) st) index i
     → (k < i) × (i < length st)
-contents_within k st index i h e =
-    let w = listed_within k (k + 1) (drop (k + 1) (kinds st)) index i h e in
-    let len = length-drop (k + 1) (kinds st) in
-    let same = length-map st (λ s. s.kind) in
-    (omega arith, omega arith)
+contents_within k st index i h e = grind (arith, listed_within, length-drop, length-map)
 
 pub not_content : (kind : StreamKind) (k : ℕ) → kind ≢ content_of k → is_content_of k kind ≡ false
-not_content outermost k d = refl
-not_content (content_of p) k d = ne_eqb p k (λ e. d (ap content_of e))
-not_content a_fork k d = refl
+not_content a0 a1 a2 = grind (arith, ne_eqb)
 
 among_if : (b : Bool) (n : ℕ) (rest : List ℕ) (i : ℕ)
     → is_among (cond b (n ∷ rest) rest) i ≡ ((b && i == n) || is_among rest i)
-among_if true n rest i = refl
-among_if false n rest i = refl
+among_if a0 a1 a2 a3 = grind arith
 
 none_below : (k n i : ℕ) (ks : List StreamKind) → i < n
     → is_among (contents_by_kind k n ks) i ≡ false

@@ -5,7 +5,7 @@ use Rattle.std.proofs.lemmas.Bool.{cases_eq, eq-eqb, ne_eqb, le-ltb, lt-ltb}
 use Rattle.std.proofs.lemmas.List.{drop_all, drop_more, ext_get_or, places}
 use Rattle.std.proofs.Math.ListN.{get_or-map}
 use Rattle.std.specs.Prelude.{◌==◌, ◌&&◌, ◌||◌, not, cond, nat_lt}
-use Rattle.syn_replay.specs.Session.State.{Stream, AllStreams, StreamKind, outermost, content_of}
+use Rattle.syn_replay.specs.Session.State.{Stream, AllStreams, StreamKind, content_of}
 use Rattle.syn_replay.specs.Session.State.{ended_from, is_entered_from, is_open_at, kinds, spent}
 use Rattle.syn_replay.specs.Session.State.{spent_if, kind_at, no_stream, stream_at, stream_ended}
 use Rattle.syn_replay.specs.Session.State.{with_stream}
@@ -13,6 +13,7 @@ use Rattle.syn_replay.specs.Session.Links.{contents, contents_by_kind}
 use Rattle.syn_replay.proofs.Walk.Changes.{kinds_changed, open_within, same_length}
 use Rattle.syn_replay.proofs.Walk.Contents.{is_among, among_own}
 use Rattle.std.proofs.lemmas.Grind.{get_or-set_at}
+use Rattle.std.proofs.Common.{rules}
 
 abbrev Test : Type 0
 Test = ℕ → Bool
@@ -55,8 +56,7 @@ ended_place f n (s ∷ later) (suc m) = ended_place (test_with f n (ends_at f n 
 pub same_kind : (st us : AllStreams) → kinds st ≡ kinds us → (m : ℕ)
     → kind_at st m ≡ kind_at us m
 same_kind st us e m =
-    sym (get_or-map (λ s. s.kind) st m no_stream) ∙ ap (λ ks. get_or ks m outermost) e
-    ∙ get_or-map (λ s. s.kind) us m no_stream
+    cc (get_or-map (λ s. s.kind) st m no_stream, get_or-map (λ s. s.kind) us m no_stream)
 
 -- parents have lower numbers
 abbrev pub Above : ℕ → AllStreams → Type 0
@@ -265,10 +265,7 @@ module _ (st : AllStreams) (k : ℕ) where
     pub rest : ended_each (drop index own_contents) now ≡ stream_ended k st
 
   pub ends_first : Above 0 st → is_open_at st k ≡ true → EndsOn (with_stream st k spent) 0
-  ends_first above o = record {
-    same_kinds = kinds_changed st k spent (λ s. refl);
-    rest = ends_in_turn k st above o;
-  }
+  ends_first above o = search (rules, kinds_changed, ends_in_turn)
 
   module _ (now : AllStreams) (index : ℕ) (e : EndsOn now index) where
     pub ends_list : contents k (k + 1) now ≡ own_contents
@@ -283,10 +280,4 @@ module _ (st : AllStreams) (k : ℕ) where
     pub ends_next : (i : ℕ) → index < length own_contents → i ≡ get_or own_contents index i
         → (then : AllStreams) → then ≡ cond (is_open_at now i) (stream_ended i now) now
         → EndsOn then (index + 1)
-    ends_next i h at then is = record {
-      same_kinds = ap kinds is ∙ go (is_open_at now i) ∙ e.same_kinds;
-      rest = let more = drop_more own_contents index i h in let left = e.rest in cc;
-    } where
-      go : (b : Bool) → kinds (cond b (stream_ended i now) now) ≡ kinds now
-      go true = kinds_from (λ n. n == i) 0 now
-      go false = refl
+    ends_next i h at then is = search (rules, drop_more, kinds_from)

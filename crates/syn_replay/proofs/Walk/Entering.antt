@@ -19,17 +19,15 @@ use Rattle.syn_replay.specs.Session.State.{AllStreams, parse_state, with_stream,
 use Rattle.syn_replay.specs.Session.State.{moved_as, stream_from, stream_at}
 use Rattle.syn_replay.specs.Session.State as states
 use Rattle.syn_replay.specs.Session.Step.{into_group}
-use Rattle.tok_buffer.specs.Messages.{first_message}
 use Rattle.syn_replay.specs.Meanings.{IsAnswer}
 use Rattle.syn_replay.specs.Session.Promises.{Answers, IsStepped}
 use Rattle.syn_replay.specs.declared.report.Answer.{Answer}
+use Rattle.std.proofs.Common.{arith}
 
 -- an answer of the error that is wanted
 answered-error : (r : Message) (e : List Message) (a : Answer) → e ≡ messages.one_message r
     → Answers (Refused e) (Ok a) → IsAnswer a (reports.refused r)
-answered-error r e a h q =
-    let same : first_message e ≡ r = ap first_message h in
-    (q.0 ∙ ap reports.refused same, q.1 (h ∙ ap messages.one_message (sym same)))
+answered-error r e a h q = grind arith
 
 abbrev pub AreEntered : (Delimiter × DelimSpan × parse.State) → Entered → Type 0
 AreEntered p e = (p.0 ≡ e.delimiter) × AreParts p.1 p.2 e

@@ -17,6 +17,7 @@ use Rattle.syn_replay.proofs.Walk.Changes.{same_length}
 use Rattle.syn_replay.proofs.Walk.Ends.{Above, entered_either, same_kind, entered_same, look_by}
 use Rattle.syn_replay.proofs.Walk.Ends.{ended_length, open_if}
 use Rattle.syn_replay.proofs.Walk.Inside.{within_parent}
+use Rattle.std.proofs.Common.{rules}
 
 -- a content's parent has a lower number
 abbrev pub Nested : AllStreams → Type 0
@@ -32,8 +33,7 @@ pub above_all : (st : AllStreams) → Nested st → Above 0 st
 above_all st h m p e = let b = h m p e in omega arith
 
 pub none_past : (st : AllStreams) (k p : ℕ) → length st ≤ k → kind_at st k ≡ content_of p → ⊥
-none_past st k p l f =
-    let none = ap (λ s. s.kind) (get_or_past st k no_stream l) in absurd (cc)
+none_past st k p l f = grind (arith, get_or_past)
 
 none_within : (depth : ℕ) (st : AllStreams) (outer : ℕ) (kind : StreamKind) → is_content kind
     ≡ false
@@ -80,19 +80,12 @@ same_within (suc depth) st us outer (content_of p) e =
 
 pub same_inside : (st us : AllStreams) (outer n : ℕ) → kinds st ≡ kinds us
     → is_inside st outer n ≡ is_inside us outer n
-same_inside st us outer n e =
-    same_within (length st) st us outer (kind_at st n) e
-    ∙ ap (is_entered_within (length st) us outer) (same_kind st us e n)
-    ∙ ap (λ d. is_entered_within d us outer (kind_at us n)) (same_length st us e)
+same_inside st us outer n e = grind (arith, same_within, same_kind, same_length)
 
 -- streams of the same kinds, of which the same are open
 pub sound_like : (st mid : AllStreams) → IsSound st → kinds mid ≡ kinds st
     → ((j : ℕ) → is_open_at mid j ≡ is_open_at st j) → IsSound mid
-sound_like st mid sound same opens = record {
-  nested = λ j p f. sound.nested j p (sym (same_kind mid st same j) ∙ f);
-  parent = λ j p o f.
-      opens p ∙ sound.parent j p (sym (opens j) ∙ o) (sym (same_kind mid st same j) ∙ f);
-}
+sound_like st mid sound same opens = search (rules, same_kind)
 
 -- what is inside a stream has a higher number
 entered_above : (st : AllStreams) → Nested st → (room outer n : ℕ) → n ≤ room → (kind : StreamKind)
@@ -141,8 +134,7 @@ module _ (st : AllStreams) (sound : IsSound st) (k : ℕ) where
 
   -- a stream with a lower number stays
   pub ended_before : (m : ℕ) → m < k → stream_at (stream_ended k st) m ≡ stream_at st m
-  ended_before m l =
-      ended_look m ∙ ap (λ b. spent_if b (stream_at st m)) (not_inside st sound.nested k m l)
+  ended_before m l = grind (arith, ended_look, not_inside)
 
   pub inside_look : (m : ℕ)
       → stream_at (closed_inside k st) m ≡ spent_if (is_inside st k m) (stream_at st m)
@@ -158,11 +150,7 @@ pub ended_after : (st mid : AllStreams) → IsSound st → kinds mid ≡ kinds s
     → ((j : ℕ) → is_open_at mid j ≡ is_open_at st j) → (k n : ℕ)
     → is_open_at (stream_ended k mid) n ≡ (is_open_at st n && not (is_or_inside st k n))
 ended_after st mid sound same opens k n =
-    let mid_sound = sound_like st mid sound same opens in
-    ap (λ s. s.is_open) (ended_look mid mid_sound k n)
-    ∙ open_if (is_or_inside mid k n) (stream_at mid n)
-    ∙ ap (λ o. o && not (is_or_inside mid k n)) (opens n)
-    ∙ ap (λ b. is_open_at st n && not (n == k || b)) (same_inside mid st k n same)
+    grind (arith, sound_like, ended_look, open_if, same_inside)
 
 -- a stream that is there ends, or stays
 pub all_ended : (st : AllStreams) → IsSound st → (k n : ℕ)

@@ -1,5 +1,5 @@
 -- Which streams are inside another.
-use Rattle.std.proofs.Common.{rules, ◌≡◌, ◌∙◌, sym, ap, ℕ, zero, suc, ◌+◌, ◌-◌, ◌<◌, Bool, false}
+use Rattle.std.proofs.Common.{◌≡◌, ◌∙◌, sym, ap, ℕ, ◌+◌, ◌-◌, ◌<◌, Bool, false}
 use Rattle.std.proofs.Common.{List, get_or, length, Option, Some, None, arith}
 use Rattle.std.proofs.lemmas.Bool.{ne_eqb}
 use Rattle.std.specs.Prelude.{◌==◌, ◌||◌}
@@ -15,8 +15,7 @@ use Rattle.syn_replay.proofs.Walk.Streams.{stream_there, length-state}
 pub within_parent : (depth : ℕ) (st : AllStreams) (outer p : ℕ) → 0 < depth
     → is_entered_within depth st outer (content_of p)
     ≡ ((p == outer) || is_entered_within (depth - 1) st outer (kind_at st p))
-within_parent zero st outer p h = absurd (omega arith)
-within_parent (suc depth) st outer p h = search rules
+within_parent a0 a1 a2 a3 a4 = grind arith
 
 -- a fork is inside none, nor is the outermost stream
 any_fork : (depth : ℕ) (st : AllStreams) (outer : ℕ) (f : Bool) (o : Option ℕ)
@@ -35,11 +34,7 @@ module _ (xs : List Stream) (outer : ℕ) (linked : AreListed xs) where
   kind_there : (i : ℕ) (x : Stream) → x ≡ get_or xs i x → i < length xs → (depth : ℕ)
       → is_entered_within depth (state_of_list xs) outer (stream_kind false x.parent)
       ≡ is_entered_within depth (state_of_list xs) outer (kind_at (state_of_list xs) i)
-  kind_there i x e h depth =
-      let st = state_of_list xs in
-      sym (any_fork depth st outer x.is_fork x.parent)
-      ∙ ap (is_entered_within depth st outer)
-      (sym (ap (λ s. s.kind) (stream_there xs i x e h)))
+  kind_there i x e h depth = grind (arith, any_fork, stream_there)
 
   pub look_first : (i : ℕ) (x : Stream) → x ≡ get_or xs i x → i < length xs
       → LeftToLook xs outer x.parent (is_inside (state_of_list xs) outer i)
@@ -84,7 +79,4 @@ fall i o h = grind arith
 
 pub falls : (xs : List Stream) (i : ℕ) (x : Stream) → AreListed xs → x ≡ get_or xs i x
     → i < length xs → (o : Option ℕ) → o ≡ Some i → above x.parent < above o
-falls xs i x linked e h o is =
-    let less = fall i x.parent (λ p q. parent_below xs i p x linked e h q) in
-    let same : above o ≡ i + 1 = ap above is in
-    omega (arith, less, same)
+falls xs i x linked e h o is = grind (arith, fall, parent_below)

@@ -66,19 +66,14 @@ left_skips k n i (suc b) (s ∷ st) q h =
 module _ (st : AllStreams) (above : Above 0 st) where
   -- no stream before its contents counts
   pub left_beyond : (k n : ℕ) → n ≤ k + 1 → left_inside st k ≡ left_from k n (drop n st)
-  left_beyond k n h =
-      left_skips k 0 n n st (omega arith) (λ m l e. let b = above m k e in omega (arith, b, l, h))
+  left_beyond k n h = grind (arith, left_skips)
 
   left_after : (k : ℕ) → left_inside st k ≡ left_from k (k + 1) (drop (k + 1) st)
   left_after k = left_beyond k (k + 1) (omega arith)
 
   pub left_emptied : (p j : ℕ) → left_inside st p ≡ None → is_open_at st j ≡ true
       → kind_at st j ≡ content_of p → reported st j ≡ None
-  left_emptied p j e o f =
-      let (recorded, inside, none) = left_holds p 0 st e j j (omega arith) o f in
-      let next : suc j ≡ j + 1 = omega arith in
-      let after = left_after j in
-      none_either _ _ (none_either _ _ recorded (cc)) none
+  left_emptied p j e o f = grind (arith, left_holds, left_after, none_either)
 
   -- what the contents of a list report
   abbrev pub left_among : List ℕ → Option Leftover
@@ -140,10 +135,7 @@ module _ (st : AllStreams) (above : Above 0 st) (n : ℕ) where
 
   module _ (t : parse.State) (index : ℕ) (g : Gathering t index) where
     pub gathers_last : length listed ≤ index → t ≡ parse_state (gathered st n)
-    gathers_last h =
-        let none = ap (left_among st above) (drop_all index listed h) in
-        same_state t (parse_state (gathered st n)) g.place g.scope
-        (sym (or_none t.noted) ∙ sym (ap (option_or t.noted) none) ∙ g.rest)
+    gathers_last h = grind (arith, drop_all, same_state, or_none)
 
     module _ (i : ℕ) (h : index < length listed) (e : i ≡ get_or listed index i) where
       -- one more content is closed if it is open, and else passed over
@@ -163,5 +155,4 @@ module _ (st : AllStreams) (above : Above 0 st) (n : ℕ) where
           })
 
       pub gathers_spent : is_open_at st i ≡ false → Gathering t (index + 1)
-      gathers_spent o =
-          record { place = g.place; scope = g.scope; rest = left_here false o }
+      gathers_spent o = search (rules, left_here)

@@ -1,10 +1,10 @@
 -- The line of a read.
-use Rattle.std.proofs.Common.{◌≡◌, ◌∙◌, ap, ap₂, sym, refl, ℕ, true, false, [], ◌∷◌, length, set}
+use Rattle.std.proofs.Common.{◌≡◌, ◌∙◌, ap, sym, refl, ℕ, true, [], ◌∷◌, set}
 use Rattle.std.proofs.Common.{subst, Option, Some, None, arith}
 use Rattle.std.proofs.lemmas.Bool.{both_ways, lt-leb}
 use Rattle.std.specs.Borrow.{MutBor}
 use Rattle.std.specs.Fn.{FnOnceReturnsAtMut, Once}
-use Rattle.std.specs.Prelude.{◌||◌, not, cond, IfOk, Result}
+use Rattle.std.specs.Prelude.{IfOk, Result}
 use Rattle.std.specs.Option.{option_or}
 use Rattle.syn_parse.specs.State as parse
 use Rattle.syn_parse.specs.State.{moved}
@@ -14,14 +14,14 @@ use Rattle.syn_replay.specs.Commands.{Action, Command, StreamRead, command_of, o
 use Rattle.syn_replay.specs.Commands as commands
 use Rattle.syn_replay.specs.Meanings.{IsAnswer, position_of}
 use Rattle.syn_replay.specs.Reports as reports
-use Rattle.syn_replay.specs.Reports.{missing, misused}
+use Rattle.syn_replay.specs.Reports.{missing}
 use Rattle.syn_replay.specs.Session.Reading.{IsRead, AreReads}
 use Rattle.syn_replay.specs.Session.State.{AllStreams, Stream, parse_state, moved_to}
-use Rattle.syn_replay.specs.Session.State.{printed_position, is_open_at, kind_at, moved_as}
+use Rattle.syn_replay.specs.Session.State.{printed_position, moved_as}
 use Rattle.syn_replay.specs.Session.State.{stream_at, with_stream}
 use Rattle.syn_replay.specs.Session.Step.{Stepped, is_fork, is_unknown, kind_misuse, misuse}
 use Rattle.syn_replay.specs.Session.Step.{named_by, on_stream, other_named, position_in, step}
-use Rattle.syn_replay.specs.Session.Step.{stream_misuse, stream_position, unmoved, with_other}
+use Rattle.syn_replay.specs.Session.Step.{stream_misuse, stream_position, with_other}
 use Rattle.syn_replay.specs.Session.Promises.{IsLine, IsOpen, IsStepped, IsStream}
 use Rattle.syn_replay.specs.Session.Stream.{IsReadLine}
 use Rattle.std.specs.declared.alloc.AllocError.{AllocError}
@@ -30,11 +30,11 @@ use Rattle.syn_replay.specs.declared.report.Answer.{Answer}
 use Rattle.syn_replay.specs.declared.report.Answer.TheVariants as answer
 use Rattle.syn_replay.specs.declared.report.Line.{Line}
 use Rattle.syn_replay.specs.declared.report.Misuse.{Misuse}
-use Rattle.syn_replay.specs.declared.report.Misuse.TheVariants.{NoStream, Spent}
 use Rattle.syn_replay.specs.declared.report.Position.{Position}
 use Rattle.syn_replay.proofs.Walk.Changes.{open_within}
 use Rattle.syn_replay.proofs.Walk.Misuse.{misused_or}
 use Rattle.syn_replay.proofs.Walk.Positions.{position_changed}
+use Rattle.std.proofs.Common.{rules}
 
 -- an answer and the position after it are the line of a read
 module _ (s new : Stream) (q : Position) (t : parse.State) (is : new ≡ moved_as t s)
@@ -42,12 +42,7 @@ module _ (s new : Stream) (q : Position) (t : parse.State) (is : new ≡ moved_a
   pub line_read : (r : StreamRead) (x : Answer) → IsAnswer x (read_answer r s.place s.scope_span).0
       → t ≡ moved (read_answer r s.place s.scope_span).1 (parse_state s)
       → IsReadLine r (record { answer = x; position = q }) s new
-  line_read r x same left = (
-    ap₂ (λ z w. record { answer = z; position = w }) same.0
-        (stands ∙ ap (λ u. printed_position u.place) left),
-    same.1,
-    is ∙ ap (λ u. moved_as u s) left,
-  )
+  line_read r x same left = search rules
 
 -- the line of a command that is a read, by a function whose calls are this read
 pub line_by : {F : Type 0} (g : Once F (MutBor parse.State × Unit {0})
@@ -69,13 +64,7 @@ module _ (c : Command) (st after : AllStreams) (x : Answer) (q : Position) (r : 
     (is : step c st ≡ r) (same : IsAnswer x r.answer) (then : after ≡ r.state) where
   pub line_stepped : position_of q ≡ position_in c st after
       → IsLine (record { answer = x; position = q }) after st c
-  line_stepped at =
-      let after_is = then ∙ ap (λ z. z.state) (sym is) in (
-        ap₂ (λ z w. record { answer = z; position = w }) (same.0 ∙ ap (λ z. z.answer) (sym is))
-            (at ∙ ap (position_in c st) after_is),
-        same.1,
-        after_is,
-      )
+  line_stepped at = search rules
 
 -- a command that names one stream
 module _ (n : ℕ) (st : AllStreams) (a : Action) (alone : other_named a ≡ None) where
@@ -98,12 +87,7 @@ module _ (n : ℕ) (st : AllStreams) (a : Action) (alone : other_named a ≡ Non
       → option_or (stream_misuse st n) (kind_misuse a st n) ≡ Some m
       → l.answer ≡ answer.Misused m → position_of l.position ≡ stream_position st n
       → IsLine l st st (on n a)
-  line_misused m l e same at =
-      rw same
-      (line_stepped (on n a) st st (answer.Misused m) l.position (unmoved st (misused m))
-      (steps_by (Some m) e) (refl, tt) refl
-      (at ∙ sym (position_is st (stream_position st n) refl
-      (ap (λ b. cond b missing (printed_position (stream_at st n).place))))))
+  line_misused m l e same at = grind (arith, line_stepped, steps_by, position_is)
 
   -- it is open and fits
   pub line_done : (s : Stream) → IsOpen st n s → kind_misuse a st n ≡ None → (x : Answer)
@@ -111,16 +95,7 @@ module _ (n : ℕ) (st : AllStreams) (a : Action) (alone : other_named a ≡ Non
       → after ≡ (on_stream a st n s).state → position_of l.position ≡ stream_position after n
       → IsLine l after st (on n a)
   line_done s (here, is_open) fits x l after is same then at =
-      let opened : is_open_at st n ≡ true = ap (λ z. z.is_open) here ∙ is_open in
-      let known : is_unknown st n ≡ false = lt-leb (length st) n (open_within st n opened) in
-      rw is
-      (line_stepped (on n a) st after x l.position (on_stream a st n s)
-      (steps_by None
-      (ap₂ (λ u e. option_or (cond u (Some NoStream) (cond (not e) (Some Spent) None))
-      (kind_misuse a st n)) known opened ∙ fits)
-      ∙ ap (on_stream a st n) here) same then
-      (at ∙ sym (position_is after (stream_position after n) refl
-      (λ none. absurd (both_ways (is_unknown st n) known none)))))
+      grind (arith, lt-leb, open_within, line_stepped, steps_by, position_is, both_ways)
 
 -- a read on a stream of several
 module _ (n : ℕ) (st : AllStreams) where
@@ -146,13 +121,4 @@ pub advance_fit : (n f : ℕ) (st : AllStreams) (s x : Stream) → IsStream st n
     → position_of l.position ≡ stream_position after n
     → IsLine l after st (on n (commands.advance f))
 advance_fit n f st s x (known, here) (other, there_is) o u g y l after is (same, then) at =
-    let advances = on n (commands.advance f) in
-    let done = on_stream (commands.advance f) st n (stream_at st n) in
-    let opened : is_open_at st n ≡ true = ap (λ z. z.is_open) here ∙ o in
-    let fork_open : is_open_at st f ≡ true = ap (λ z. z.is_open) there_is ∙ u in
-    let fork : is_fork (kind_at st f) ≡ true = ap (λ z. is_fork z.kind) there_is ∙ g in
-    let fits : misuse advances st ≡ None = cc in
-    rw is (line_stepped advances st after y l.position done
-    (ap (λ z. misused_or st z done) fits) same then
-    (at ∙ ap₂ (λ v w. cond (v || (w || false)) missing (stream_position after n)) (sym known)
-    (sym other)))
+    grind (arith, line_stepped, misused_or)

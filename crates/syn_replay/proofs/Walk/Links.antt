@@ -95,15 +95,7 @@ contents_more : (k from : ℕ) (xs : List Stream) (y : Stream) → from ≤ leng
     ≡ contents k from (state_of_list xs)
     ++ cond (is_content_of k (stream_of y).kind) (length xs ∷ []) []
 contents_more k from xs y h =
-    let ks = kinds (state_of_list xs) in
-    let kind = (stream_of y).kind in
-    let len : length ks ≡ length xs =
-    length-map (state_of_list xs) (λ s. s.kind) ∙ length-state xs in
-    let last : from + length (drop from ks) ≡ length xs = omega (arith, length-drop from ks, len) in
-    let all : kinds (state_of_list (xs ++ y ∷ [])) ≡ ks ++ kind ∷ [] = simp map-append in
-    let rest = drop-append-le from ks (kind ∷ []) (omega (arith, len)) in
-    let more = more_by_kind k from (drop from ks) kind in
-    cc
+    grind (arith, length-map, length-state, length-drop, map-append, drop-append-le, more_by_kind)
 
 -- one stream more, which the stream lists that it is a content of, and which lists none
 listed_with : (xs zs : List Stream) (y : Stream) → AreListed xs → length zs ≡ length xs
@@ -186,10 +178,8 @@ above_listed xs h m p e =
 -- a fork, if there is memory for it
 pub pushed_not_empty : (b : Bool) (xs ys : List Stream) (x : Stream) → ys ≡ cond b (xs ++ x ∷ []) xs
     → 0 < length xs → 0 < length ys
-pushed_not_empty true xs ys x e h = omega (arith, ap length e, length-append xs (x ∷ []))
-pushed_not_empty false xs ys x e h = omega (arith, ap length e)
+pushed_not_empty a0 a1 a2 a3 a4 a5 = grind (arith, length-append)
 
 pub pushed_listed : (b : Bool) (xs ys : List Stream) (x : Stream) → ys ≡ cond b (xs ++ x ∷ []) xs
     → x.parent ≡ None → x.contents.items ≡ [] → AreListed xs → AreListed ys
-pushed_listed true xs ys x e none list h = rw e (listed_with_fork xs x h none list)
-pushed_listed false xs ys x e none list h = rw e h
+pushed_listed a0 a1 a2 a3 a4 a5 a6 a7 = grind (arith, listed_with_fork)

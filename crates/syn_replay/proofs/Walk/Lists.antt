@@ -2,7 +2,7 @@
 use Rattle.std.proofs.Common.{◌≡◌, ◌∙◌, sym, ap, refl, subst, ℕ, suc, ◌≤◌, Bool, true, false, ◌&&◌}
 use Rattle.std.proofs.Common.{List, [], ◌∷◌, ◌++◌, map, Option, Some, None, Ok, Err, arith}
 use Rattle.std.proofs.lemmas.Bool.{false≢true}
-use Rattle.std.specs.Prelude.{Result, cond, ◌==◌, nat_lt, is_some}
+use Rattle.std.specs.Prelude.{Result, cond, nat_lt, is_some}
 use Rattle.std.specs.Global.{Vec}
 use Rattle.std.specs.List.{flat_map}
 use Rattle.std.specs.Ordering.{is_lt, is_some_and, nat_cmp}
@@ -11,7 +11,7 @@ use Rattle.std.proofs.Math.Bool.{or-false}
 use Rattle.tok_leaves.specs.declared.span.Span.{Span}
 use Rattle.tok_core.specs.Forest.{Tree}
 use Rattle.tok_buffer.specs.Messages as messages
-use Rattle.tok_buffer.specs.Place.{Place, empty_place, at}
+use Rattle.tok_buffer.specs.Place.{Place}
 use Rattle.tok_buffer.specs.Reads.{read_punctuation}
 use Rattle.tok_buffer.specs.declared.error.Message.{Message}
 use Rattle.tok_types.specs.Looks.{PeeksFor}
@@ -49,6 +49,7 @@ use Rattle.syn_replay.specs.declared.report.Piece.{Piece}
 use Rattle.syn_replay.proofs.Walk.Pieces.{punctuation-pieces}
 use Rattle.syn_replay.proofs.Messages.{message_there, separator_there}
 use Rattle.syn_replay.proofs.Views.EnoughTurns.{more_turns_change_nothing}
+use Rattle.std.proofs.Common.{rules}
 
 -- progress is to begin later
 less_is : (c d : ℕ) → is_lt (nat_cmp c d) ≡ nat_lt c d
@@ -56,15 +57,10 @@ less_is c d = grind arith
 
 in_one : (b a : Bool) (o : Ordering) (later : Bool) → is_lt o ≡ later
     → ((b && a) && is_some_and is_lt (cond b (Some o) None)) ≡ ((b && a) && later)
-in_one true a o later e = ap (λ z. a && z) e
-in_one false a o later e = refl
+in_one a0 a1 a2 a3 a4 = grind arith
 
 progress_is : (p q : Place) → progresses p q ≡ is_later p q
-progress_is empty_place empty_place = refl
-progress_is empty_place (at m t d k ks) = refl
-progress_is (at n s c l ls) empty_place = refl
-progress_is (at n s c l ls) (at m t d k ks) = or-false _
-    ∙ in_one (n == m) (s == t) (nat_cmp c d) (nat_lt c d) (less_is c d)
+progress_is a0 a1 = grind (arith, or-false, in_one, less_is)
 
 -- the same stream at another place
 here : (s t : State) → t ≡ s → t ≡ moved t.place s
@@ -136,15 +132,7 @@ module _ {F : Type 0} (k n : ℕ) (kind : Kind) (reads : ValueCall F (Vec Piece)
     then : t ≡ moved t.place s
 
   value : (f g : F) (s t : State) (v : Vec Piece) → Fits f → reads f s (Ok v) g t → IsValue s t v
-  value f g s t v fit h =
-      let (r, is, made, left) = (tells f g s t (Ok v) fit h).0 in
-      let at : r.1 ≡ t.place = sym (ap (λ (u : State). u.place) left) in
-      record {
-        trees = r.0;
-        is = is ∙ ap (λ z. Some (r.0, z)) at;
-        pieces = sym made;
-        then = there s t r.1 left;
-      }
+  value f g s t v fit h = search (rules, there)
 
   abbrev T : Type 0
   T = Turn (Vec Piece) (Punctuation k n) F
@@ -301,13 +289,7 @@ module _ {F : Type 0} (k n : ℕ) (kind : Kind) (reads : ValueCall F (Vec Piece)
         → (rounds scope rule (suc m) s.place ≡ with_parts
         (pieces_in turn.value ∷ (punct_pieces word turn.separator.spans ∷ []))
         (rounds scope rule m turn.after.place)) × (turn.after ≡ moved turn.after.place s)
-    one_turn m f s turn fit i e =
-        let v = value f turn.parser s turn.between turn.value fit i.opens.1 in
-        let p = separator turn.between turn.after turn.separator i.closes in
-        let all =
-        full m s.place turn.between.place turn.after.place v.trees p.trees
-        (begins rule s.place i.opens.0) v.is (goes_on rule turn.between.place i.goes_on) p.is e in
-        (cc, along s turn.between turn.after v.then p.then)
+    one_turn m f s turn fit i e = grind (arith, value, separator, full, begins, goes_on, along)
 
     chain_rounds : (m : ℕ) (turns : List T) (f g : F) (s t : State) → Fits f
         → Chain (run_rule rule) reads separates f s turns g t

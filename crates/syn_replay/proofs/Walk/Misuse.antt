@@ -1,5 +1,5 @@
 -- A command that fits its streams, and one that does not.
-use Rattle.std.proofs.Common.{◌≡◌, ℕ, true, false, Option, Some, None, arith}
+use Rattle.std.proofs.Common.{◌≡◌, ℕ, true, false, Option, Some, None}
 use Rattle.std.proofs.lemmas.Bool.{not-false, or_parts}
 use Rattle.std.specs.Prelude.{◌||◌}
 use Rattle.syn_replay.specs.Commands.{Command}
@@ -8,6 +8,7 @@ use Rattle.syn_replay.specs.Session.State.{AllStreams, is_open_at}
 use Rattle.syn_replay.specs.Reports.{misused}
 use Rattle.syn_replay.specs.Session.Step.{Stepped, any_of, is_unknown, has_ended, unmoved}
 use Rattle.syn_replay.specs.Session.Step.{kind_misuse, misuse, named_by}
+use Rattle.std.proofs.Common.{rules}
 
 -- what the tests say of the streams that a command names
 pub record Fits (c : Command) (st : AllStreams) : Type 0 where
@@ -16,8 +17,7 @@ pub record Fits (c : Command) (st : AllStreams) : Type 0 where
   pub kind : kind_misuse c.action st c.stream ≡ None
 
 pub fits : (c : Command) (st : AllStreams) → misuse c st ≡ None → Fits c st
-fits c st h =
-    record { there = grind arith; is_open = grind arith; kind = grind arith }
+fits c st h = search rules
 
 pub one_open : (st : AllStreams) (n : ℕ) → (has_ended st n || false) ≡ false
     → is_open_at st n ≡ true

@@ -1,5 +1,5 @@
 -- A stream ends with the streams inside it, and with no other.
-use Rattle.std.proofs.Common.{◌≡◌, ◌∙◌, sym, ap, refl, ℕ, Bool, Option, Some, None, arith}
+use Rattle.std.proofs.Common.{◌≡◌, ◌∙◌, sym, ap, refl, ℕ, Bool, Option, arith}
 use Rattle.std.specs.List.{slice_get}
 use Rattle.std.specs.Prelude.{◌&&◌, not, cond}
 use Rattle.tok_buffer.specs.Ahead.{Leftover}
@@ -10,18 +10,18 @@ use Rattle.syn_replay.specs.Reports.{done, misused}
 use Rattle.syn_replay.specs.declared.report.Misuse.{Misuse}
 use Rattle.syn_replay.specs.declared.report.Misuse.TheVariants.{OutOfScope}
 use Rattle.syn_replay.specs.Session.State.{AllStreams, StreamKind, outermost, content_of, a_fork}
-use Rattle.syn_replay.specs.Session.State.{first_state, with_stream, recording, recording_on_parent}
-use Rattle.syn_replay.specs.Session.State.{content_closed, moved_to_fork, reported, gathered}
-use Rattle.syn_replay.specs.Session.State.{is_inside, kind_at, kinds, moved_on, is_or_inside}
+use Rattle.syn_replay.specs.Session.State.{with_stream, recording, recording_on_parent}
+use Rattle.syn_replay.specs.Session.State.{content_closed, moved_to_fork, gathered}
+use Rattle.syn_replay.specs.Session.State.{is_inside, kinds, moved_on, is_or_inside}
 use Rattle.syn_replay.specs.Session.State.{is_open_at, stream_at}
 use Rattle.syn_replay.specs.Session.Step.{Stepped, misuse, on_stream, unmoved, step}
-use Rattle.syn_replay.specs.Session.Walk.{last_state}
 use Rattle.syn_replay.proofs.Walk.Changes.{kept_by, kinds_changed}
 use Rattle.syn_replay.proofs.Walk.Ends.{open_if}
 use Rattle.syn_replay.proofs.Walk.Inner.{IsSound, all_ended, by_parent, inside_look, sound_like}
 use Rattle.syn_replay.proofs.Walk.Inner.{ended_after}
 use Rattle.syn_replay.proofs.Walk.Misuse.{misused_or}
 use Rattle.syn_replay.proofs.Walk.Steps.{first_sound, run_sound}
+use Rattle.std.proofs.Common.{rules}
 
 pub recording_kinds : (kind : StreamKind) (n : Option Leftover) (st : AllStreams)
     → kinds (recording_on_parent kind n st) ≡ kinds st
@@ -37,14 +37,12 @@ recording_open (content_of p) n st j = kept_by (λ s. s.is_open) (recording n) (
 
 pub recording_sound : (kind : StreamKind) (n : Option Leftover) (st : AllStreams) → IsSound st
     → IsSound (recording_on_parent kind n st)
-recording_sound kind n st sound =
-    sound_like st _ sound (recording_kinds kind n st) (recording_open kind n st)
+recording_sound kind n st sound = search (rules, sound_like, recording_kinds, recording_open)
 
 -- a command that is done is done on its stream
 done_or : (st : AllStreams) (m : Option Misuse) (r : Stepped) → (misused_or st m r).answer ≡ done
     → misused_or st m r ≡ r
-done_or st (Some n) r q = cc
-done_or st None r q = refl
+done_or a0 a1 a2 a3 = grind arith
 
 done_on : (c : Command) (st : AllStreams) → (step c st).answer ≡ done
     → step c st ≡ on_stream c.action st c.stream (stream_at st c.stream)
@@ -53,11 +51,7 @@ done_on c st = done_or st (misuse c st) _
 -- a close
 closed_open : (st : AllStreams) → IsSound st → (k n : ℕ)
     → is_open_at (content_closed k st) n ≡ (is_open_at st n && not (is_or_inside st k n))
-closed_open st sound k =
-    let kind = kind_at st k in
-    let given = reported st k in
-    ended_after st (recording_on_parent kind given st) sound (recording_kinds kind given st)
-    (recording_open kind given st) k
+closed_open st sound k = grind (arith, ended_after, recording_kinds, recording_open)
 
 -- an advance
 advance_done : (b : Bool) (st after : AllStreams)
@@ -97,6 +91,4 @@ inner_streams_end st sound = record {
 }
 
 pub inner_streams_end_too : InnerStreamsEndToo
-inner_streams_end_too f cs =
-    inner_streams_end (last_state (first_state f) cs)
-    (run_sound (first_state f) cs (first_sound f))
+inner_streams_end_too f cs = search (rules, inner_streams_end, run_sound, first_sound)

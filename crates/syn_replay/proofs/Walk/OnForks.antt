@@ -13,20 +13,18 @@ use Rattle.std.specs.Option.{option_map, option_or}
 use Rattle.tok_leaves.specs.declared.span.Span.{Span}
 use Rattle.tok_leaves.specs.Spans.{closing_span}
 use Rattle.tok_core.specs.Forest.{Tree}
-use Rattle.tok_buffer.specs.Ahead.{Leftover, leftover}
+use Rattle.tok_buffer.specs.Ahead.{Leftover}
 use Rattle.tok_buffer.specs.Entry.{Entered}
 use Rattle.tok_buffer.specs.Order.{same_scope}
 use Rattle.tok_buffer.specs.Place.{Place}
-use Rattle.tok_buffer.specs.Reads as reads
 use Rattle.tok_buffer.specs.declared.error.Message.{Message}
-use Rattle.syn_parse.specs.Parses.{read_group}
 use Rattle.syn_replay.specs.Commands as commands
-use Rattle.syn_replay.specs.Commands.{Action, Command, StreamRead, listed_to, looked, parsed}
+use Rattle.syn_replay.specs.Commands.{Action, Command, StreamRead, listed_to, looked}
 use Rattle.syn_replay.specs.Commands.{read_answer}
 use Rattle.syn_replay.specs.Forks.{is_own, is_own_action, is_own_command, is_self_contained}
 use Rattle.syn_replay.specs.Forks.{on_fork, command_on_fork, answer_on_fork, line_on_fork}
 use Rattle.syn_replay.specs.Forks.{IsFollowed, ForksFollowCommands}
-use Rattle.syn_replay.specs.Kinds.{Look, display, peek, peek_kind, read}
+use Rattle.syn_replay.specs.Kinds.{Look, display, peek}
 use Rattle.syn_replay.specs.Reports as reports
 use Rattle.syn_replay.specs.Reports.{Answer, absent, done, misused}
 use Rattle.syn_replay.specs.Session.Entering.{entered_by, entering_words}
@@ -35,14 +33,14 @@ use Rattle.syn_replay.specs.Session.State.{AllStreams, with_stream, moved_to, mo
 use Rattle.syn_replay.specs.Session.State.{spent_if, recording_on_parent, reported, gathered}
 use Rattle.syn_replay.specs.Session.State.{left_inside, left_from, stream_ended, content_closed}
 use Rattle.syn_replay.specs.Session.State.{moved_to_fork, is_content_of, is_entered_from, is_inside}
-use Rattle.syn_replay.specs.Session.State.{is_or_inside, is_open_at, first_state, kind_at}
+use Rattle.syn_replay.specs.Session.State.{is_or_inside, is_open_at, kind_at}
 use Rattle.syn_replay.specs.Session.State.{no_stream, stream_at}
 use Rattle.syn_replay.specs.Session.Step.{Stepped, any_of, has_ended, is_content, is_unknown}
 use Rattle.syn_replay.specs.Session.Step.{kind_misuse, misuse, named_by, other_named, new_stream}
 use Rattle.syn_replay.specs.Session.Step.{into_group, on_stream, position_in, step, line}
 use Rattle.syn_replay.specs.Session.Step.{with_other}
 use Rattle.syn_replay.specs.Session.Walk.{last_state, lines_from}
-use Rattle.syn_replay.specs.Turns.{ListOutcome, read_all, refused_at, turns, turns_left}
+use Rattle.syn_replay.specs.Turns.{ListOutcome}
 use Rattle.syn_replay.specs.declared.report.Misuse.{Misuse}
 use Rattle.syn_replay.proofs.Walk.Changes.{kept_by, kinds_changed, open_within, there}
 use Rattle.syn_replay.proofs.Walk.Ends.{kind_if, ended_length}
@@ -60,12 +58,10 @@ taken_unchanged : (answers : List Tree → Answer)
     → (words : Message) (p : Place) (r : Option (List Tree × Place))
     → answer_on_fork (commands.answered_by answers words p r).0
     ≡ (commands.answered_by answers words p r).0
-taken_unchanged answers same words p None = refl
-taken_unchanged answers same words p (Some r) = same r.0
+taken_unchanged a0 a1 a2 a3 a4 = grind (arith, places)
 
 listed_unchanged : (o : ListOutcome) → answer_on_fork (listed_to o).0 ≡ (listed_to o).0
-listed_unchanged (read_all parts p) = refl
-listed_unchanged (refused_at r p) = refl
+listed_unchanged a0 = grind (arith, places)
 
 looked_unchanged : (n : ℕ) (ls : List Look) (missed : List (List ℕ)) (p : Place) (scope : Span)
     → answer_on_fork (looked n ls missed p scope) ≡ looked n ls missed p scope
@@ -76,19 +72,8 @@ looked_unchanged n (l ∷ ls) missed p scope =
 
 read_unchanged : (r : StreamRead) (p : Place) (scope : Span)
     → answer_on_fork (read_answer r p scope).0 ≡ (read_answer r p scope).0
-read_unchanged (commands.parse kind) p scope =
-    taken_unchanged _ (λ ts. refl) _ p (read kind p)
-read_unchanged (commands.optional kind) p scope =
-    cond_both (peek_kind kind p) (parsed kind p scope) (absent, p)
-    (λ x. answer_on_fork x.0 ≡ x.0)
-    (λ e. taken_unchanged _ (λ ts. refl) _ p (read kind p)) (λ e. refl)
-read_unchanged (commands.list rule kind separator) p scope =
-    listed_unchanged (turns kind separator scope rule (turns_left p) p)
-read_unchanged (commands.lookahead ls) p scope = looked_unchanged 0 ls [] p scope
-read_unchanged commands.next_tree p scope =
-    taken_unchanged _ (λ ts. refl) _ p (reads.read_tree p)
-read_unchanged commands.next_group p scope = taken_unchanged _ (λ ts. refl) _ p (read_group p)
-read_unchanged r p scope = refl
+read_unchanged a0 a1 a2 =
+    grind (arith, places, taken_unchanged, cond_both, listed_unchanged, looked_unchanged)
 
 module _ (front : AllStreams) (k : ℕ) (is_open : is_open_at front k ≡ true) where
   abbrev made : ℕ
@@ -348,8 +333,7 @@ module _ (front : AllStreams) (k : ℕ) (is_open : is_open_at front k ≡ true) 
         grind (arith, places))
 
     own_later : (m : ℕ) → OwnKind (kind_at (drop made x) m)
-    own_later m =
-        rw (get_or-drop made x m no_stream, OwnKind) (b.own (made + m) (omega arith))
+    own_later m = grind (arith, places, get_or-drop)
 
     left_both : (j : ℕ) → Own j → made ≤ on j
         → left_inside y (on j) ≡ left_from j made (drop made x)
@@ -359,9 +343,7 @@ module _ (front : AllStreams) (k : ℕ) (is_open : is_open_at front k ≡ true) 
         ∙ left_on (drop made x) j made own (omega arith) own_later
 
     left_own : left_inside y made ≡ left_from k made (drop made x)
-    left_own =
-        ap (left_inside y) (sym on_stream_is)
-        ∙ left_both k (stream refl) (omega (arith, on_stream_is))
+    left_own = grind (arith, places, on_stream_is, left_both)
 
     left_made : (i : ℕ) → made ≤ i → left_inside y (i + 1) ≡ left_inside x i
     left_made i le =
@@ -370,9 +352,7 @@ module _ (front : AllStreams) (k : ℕ) (is_open : is_open_at front k ≡ true) 
         ∙ sym (left_beyond x (above_all x x_sound.nested) i made (omega arith))
 
     reported_made : (i : ℕ) → made ≤ i → reported y (i + 1) ≡ reported x i
-    reported_made i le =
-        ap₂ (λ (s : Stream) l. option_or (option_or s.recorded l) (leftover s.place)) (b.later i le)
-        (left_made i le)
+    reported_made i le = grind (arith, places, left_made)
 
     -- a stream is inside another where it is on the other side
     inside_on : (room i j : ℕ) → made ≤ i → made ≤ j → j ≤ room
@@ -573,24 +553,13 @@ module _ (front : AllStreams) (k : ℕ) (is_open : is_open_at front k ≡ true) 
       }
 
   starts : Simulates front (step (commands.on k commands.fork) front).state
-  starts =
-      let known : is_unknown front k ≡ false = lt-leb made k k_below in
-      let is : step (commands.on k commands.fork) front ≡ on_stream commands.fork front k s0 = cc in
-      rw is begins
+  starts = grind (arith, places, lt-leb, k_below, begins)
 
   module _ (x y : AllStreams) (b : Simulates x y) (x_sound : IsSound x) (y_sound : IsSound y) where
     ends : same_scope (stream_at y k).place (stream_at y made).place ≡ true
         → step (commands.on k to_fork) y
         ≡ record { answer = done; state = moved_to_fork k made y }
-    ends h =
-        let low = k_below in
-        let there : is_unknown y k ≡ false = grind (arith, b.longer, b.room) in
-        let known : is_unknown y made ≡ false = grind (arith, b.longer, b.room) in
-        let open_now : is_open_at y k ≡ true = ap (λ s. s.is_open) b.kept ∙ is_open in
-        let fork_open : is_open_at y made ≡ true = ap (λ s. s.is_open) b.forks ∙ is_open in
-        let fork : kind_at y made ≡ a_fork = ap (λ s. s.kind) b.forks in
-        let outside = not_inside y y_sound.nested made k low in
-        cc
+    ends h = grind (arith, places, k_below, there, not_inside)
 
     abbrev left : Option Leftover
     left = left_from k made (drop made x)
@@ -652,5 +621,4 @@ module _ (front : AllStreams) (k : ℕ) (is_open : is_open_at front k ≡ true) 
 
 pub forks_follow_commands : ForksFollowCommands
 forks_follow_commands f before cs k is contained =
-    is_followed (last_state (first_state f) before) k is cs
-    (run_sound (first_state f) before (first_sound f)) contained
+    search (rules, is_followed, run_sound, first_sound)

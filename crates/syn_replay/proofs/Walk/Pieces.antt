@@ -5,14 +5,13 @@ use Rattle.std.proofs.Common.{Ok, eqb-true}
 use Rattle.std.proofs.lemmas.Bool.{cond-true, eq-eqb, and_parts}
 use Rattle.std.proofs.lemmas.List.{append-nil, append_assoc, map-append}
 use Rattle.std.proofs.lemmas.Option.{cond_some}
-use Rattle.std.specs.Prelude.{◌==◌, not, cond, encode_utf8}
+use Rattle.std.specs.Prelude.{◌==◌, cond, encode_utf8}
 use Rattle.std.specs.Global.{Vec}
 use Rattle.std.specs.Str.{chars}
 use Rattle.tok_leaves.specs.declared.punct.Spacing.{Spacing}
-use Rattle.tok_leaves.specs.declared.punct.Spacing.TheVariants.{Alone, Joint}
 use Rattle.tok_leaves.specs.declared.span.Span.{Span}
-use Rattle.tok_leaves.specs.Leaves.{ident, punct, literal, apostrophe}
-use Rattle.tok_core.specs.Forest.{Tree, leaf, group, tree_span}
+use Rattle.tok_leaves.specs.Leaves.{punct}
+use Rattle.tok_core.specs.Forest.{Tree, leaf, tree_span}
 use Rattle.tok_buffer.specs.Descent.{descend}
 use Rattle.tok_buffer.specs.Place.{Place, front, pass}
 use Rattle.tok_buffer.specs.Reads.{read_then, is_joint_of, is_punct_of, read_punctuation, sized}
@@ -27,6 +26,7 @@ use Rattle.syn_replay.specs.Turns.{pieces_of}
 use Rattle.syn_replay.specs.Session.Reading.{ArePieces, AfterPieces, punct_pieces}
 use Rattle.syn_replay.specs.Meanings.{piece_of}
 use Rattle.syn_replay.specs.declared.report.Piece.{Piece}
+use Rattle.std.proofs.Common.{rules}
 
 module _ {T : Type 0} (Means : T → List Tree → Type 0) (words : Message) (s : State) where
   -- a value that is read, as its pieces
@@ -48,8 +48,7 @@ pub value-pieces : {T : Type 0} (trees_of : T
     → List Tree) (words : Message) (s : State) (x : Option (List Tree × Place)) (v : T)
     (ps : Vec Piece) (t : State) → Reads (λ v ts. ts ≡ trees_of v) x words s (Ok v) t
     → ArePieces (trees_of v) ps → AfterPieces x s ps t
-value-pieces trees_of words s x v ps t h made =
-    read-pieces (λ v ts. ts ≡ trees_of v) words s x v ps t (λ ts m. made ∙ ap pieces_of (sym m)) h
+value-pieces trees_of words s x v ps t h made = grind (arith, read-pieces)
 
 -- a punct of a character
 record IsPunctOf (c : ℕ) (t : Tree) : Type 0 where
@@ -58,21 +57,10 @@ record IsPunctOf (c : ℕ) (t : Tree) : Type 0 where
   whole : t ≡ leaf (punct c spacing span)
 
 of_single : (c : ℕ) (t : Tree) → is_punct_of c t ≡ true → IsPunctOf c t
-of_single c (leaf (punct k spacing span)) h =
-    let same = eqb-true k c (and_parts (k == c) (not (k == apostrophe)) h).0 in
-    record { spacing = spacing; span = span; whole = cc }
-of_single c (leaf (ident text span)) h = cc
-of_single c (leaf (literal text span)) h = cc
-of_single c (group d inside span) h = cc
+of_single a0 a1 a2 = search (rules, eqb-true, and_parts)
 
 of_joint : (c : ℕ) (t : Tree) → is_joint_of c t ≡ true → IsPunctOf c t
-of_joint c (leaf (punct k Joint span)) h =
-    let same = eqb-true k c (and_parts (k == c) (not (k == apostrophe)) h).0 in
-    record { spacing = Joint; span = span; whole = cc }
-of_joint c (leaf (punct k Alone span)) h = cc
-of_joint c (leaf (ident text span)) h = cc
-of_joint c (leaf (literal text span)) h = cc
-of_joint c (group d inside span) h = cc
+of_joint a0 a1 a2 = search (rules, eqb-true, and_parts)
 
 -- the one tree that is taken
 record IsTaken (wanted : Tree → Bool) (ts : List Tree) : Type 0 where
@@ -85,10 +73,7 @@ taken_in : (wanted : Tree → Bool) (x : Option Tree) (p : Place) (r : List Tree
       | Some t ↦ cond {A = Option (List Tree × Place)} (wanted t) (Some (t ∷ [], p)) None
       | None ↦ None
     ] ≡ Some r → IsTaken wanted r.0
-taken_in wanted None p r e = cc
-taken_in wanted (Some t) p r e =
-    let (w, same) = cond_some (wanted t) (t ∷ [], p) r e in
-    record { one = t; is_wanted = w; whole = ap (λ z. z.0) (sym same) }
+taken_in a0 a1 a2 a3 a4 = search (rules, cond_some)
 
 wanted_is_taken : (wanted : Tree → Bool) (d : Place) (r : List Tree × Place)
     → reads.read_if wanted d ≡ Some r → IsTaken wanted r.0
@@ -114,9 +99,7 @@ pub one_more_piece : (items : List Piece) (piece : Piece) (whole : List reports.
     → map piece_of items ++ punct_pieces text spans ≡ whole
     → map piece_of (items ++ piece ∷ []) ++ punct_pieces after others ≡ whole
 one_more_piece items piece whole text after spans others c span made t s e =
-    let apart = map-append piece_of items (piece ∷ []) in
-    let one = append_assoc (map piece_of items) (piece_of piece ∷ []) (punct_pieces after others) in
-    cc
+    grind (arith, map-append, append_assoc)
 
 -- one read and then another
 record IsBoth (x : Option (List Tree × Place)) (g : Place
@@ -129,19 +112,12 @@ record IsBoth (x : Option (List Tree × Place)) (g : Place
 
 both_read : (x : Option (List Tree × Place)) (g : Place
     → Option (List Tree × Place)) (r : List Tree × Place) → read_then x g ≡ Some r → IsBoth x g r.0
-both_read None g r e = cc
-both_read (Some a) g r e = go (g a.1) refl e where
-  go : (y : Option (List Tree × Place)) → g a.1 ≡ y
-      → elim y [ Some q ↦ Some (a.0 ++ q.0, q.1) | None ↦ None ] ≡ Some r → IsBoth (Some a) g r.0
-  go None w h = cc
-  go (Some q) w h = record { first = a; second = q; is_first = refl; is_second = w; whole = cc }
+both_read a0 a1 a2 a3 = search rules
 
 single_pieces : (c : ℕ) (cs : List ℕ) (t : Tree) (ts more : List Tree) → IsPunctOf c t
     → ts ≡ t ∷ more → pieces_of more ≡ punct_pieces cs (map tree_span more)
     → pieces_of ts ≡ punct_pieces (c ∷ cs) (map tree_span ts)
-single_pieces c cs t ts more one e h =
-    let same : ts ≡ leaf (punct c one.spacing one.span) ∷ more = let w = one.whole in cc in
-    rw same (ap (λ z. record { text = encode_utf8 c; span = one.span } ∷ z) h)
+single_pieces c cs t ts more one e h = search rules
 
 -- the pieces of a punctuation are its characters
 pub punctuation-pieces : (text : List ℕ) (p : Place) (r : List Tree × Place)
@@ -161,9 +137,7 @@ punctuation-pieces (c ∷ (d ∷ cs)) p r e =
 -- the characters of an ASCII text of the length that is asked for
 module _ (n : ℕ) (text : List ℕ) (same : sized n text ≡ text) (ascii : chars text ≡ text) where
   own_chars : ascii_chars (sized n text) ≡ text
-  own_chars =
-      rw (same, ascii)
-      (cond-true (length text == length text) text [] (eq-eqb (length text) (length text) refl))
+  own_chars = grind (arith, cond-true, eq-eqb)
 
   -- a punctuation that is read
   pub sized-pieces : (s : State) (spans : List Span) (ps : Vec Piece) (t : State)

@@ -1,6 +1,6 @@
 -- The lines of a walk, as a receiver has them: kept, written, or written in pairs.
-use Rattle.std.proofs.Common.{◌≡◌, ◌∙◌, ◌↔◌, ℕ, ◌+◌, ◌<◌, ◌≤◌, true, List, [], ◌∷◌, ◌++◌, Bool}
-use Rattle.std.proofs.Common.{false, length, drop, get_or, map, sym, ap, subst, refl, append_assoc}
+use Rattle.std.proofs.Common.{◌≡◌, ◌↔◌, ℕ, ◌+◌, ◌<◌, ◌≤◌, true, List, [], ◌∷◌, ◌++◌, Bool}
+use Rattle.std.proofs.Common.{false, length, drop, get_or, map, sym, subst, refl, append_assoc}
 use Rattle.std.proofs.Output.{has_written_append, writes_in_calls_nil}
 use Rattle.std.proofs.lemmas.Bool.{both_ways}
 use Rattle.std.proofs.lemmas.List.{append-nil, drop_all, drop_more, map-append}
@@ -27,6 +27,8 @@ use Rattle.syn_replay.specs.declared.agreement.written.Pair.{Pair}
 use Rattle.syn_replay.specs.declared.command.Command.{Command}
 use Rattle.syn_replay.specs.declared.report.Line.{Line}
 use Rattle.syn_replay.specs.declared.report.Verdict.{Verdict}
+use Rattle.std.proofs.Common.{arith}
+use Rattle.std.proofs.Common.{rules}
 
 -- a run so far: what is left leads from here to where the whole leads
 module _ {R : Type 0} (receives : R → Command → Line → R → Type 0) (first : AllStreams) (start : R)
@@ -41,24 +43,14 @@ module _ {R : Type 0} (receives : R → Command → Line → R → Type 0) (firs
     pub leads_on : (new : AllStreams) (next : R) (c d : Command) (l : Line) → i < length all
         → c ≡ get_or all i d → IsLine l new st (command_of c) → receives r c l next
         → Leads new next (i + 1)
-    leads_on new next c d l h item (is, one, after) received =
-        let rest = drop (i + 1) all in
-        let ahead : drop i all ≡ c ∷ rest =
-        drop_more all i d h ∙ ap (λ w. w ∷ rest) (sym item) in
-        record {
-          state = let end = leads.state in cc;
-          lines = λ last more.
-              leads.lines last (rw ahead (l, next, is, one, received, rw (← after) more));
-        }
+    leads_on new next c d l h item (is, one, after) received = search (rules, drop_more)
 
     module _ (h : length all ≤ i) where
       pub leads_to_state : st ≡ last_state first (map command_of all)
-      leads_to_state =
-          ap (λ w. last_state st (map command_of w)) (sym (drop_all i all h)) ∙ leads.state
+      leads_to_state = grind (arith, drop_all)
 
       pub leads_to_lines : AreReceived receives first all start r
-      leads_to_lines =
-          leads.lines r (rw (drop_all i all h) refl)
+      leads_to_lines = grind (arith, drop_all)
 
 -- lines that are kept
 pub lines_kept : (st : AllStreams) (cs : List Command) (before after : Vec Line)
@@ -163,11 +155,4 @@ pub reports_agree : (left right : Report) (lines agree : Bool)
     → ((lines ≡ true) ↔ LinesAgree left.lines right.lines)
     → (lines ≡ true → (agree ≡ true) ↔ VerdictsAgree left.verdict right.verdict)
     → (lines ≡ false → agree ≡ false) → (agree ≡ true) ↔ ReportsAgree left right
-reports_agree left right true agree lines verdicts none = (
-  λ h. record { lines = lines.0 refl; verdicts = (verdicts refl).0 h },
-  λ r. (verdicts refl).1 r.verdicts,
-)
-reports_agree left right false agree lines verdicts none = (
-  λ h. absurd (both_ways agree (none refl) h),
-  λ r. absurd (both_ways false refl (lines.1 r.lines)),
-)
+reports_agree a0 a1 a2 a3 a4 a5 a6 = search (rules, both_ways)

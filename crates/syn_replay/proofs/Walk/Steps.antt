@@ -1,5 +1,5 @@
 -- What a command does to each stream.
-use Rattle.std.proofs.Common.{rules, ◌≡◌, ◌≢◌, ◌∙◌, sym, ap, refl, ℕ, zero, suc, ◌<◌, ◌≤◌, Bool}
+use Rattle.std.proofs.Common.{rules, ◌≡◌, ◌≢◌, ◌∙◌, sym, ap, refl, ℕ, ◌<◌, ◌≤◌, Bool}
 use Rattle.std.proofs.Common.{true, false, List, [], ◌∷◌, ◌++◌, length, length-append, Option, Some}
 use Rattle.std.proofs.Common.{None, arith, inl, inr, set}
 use Rattle.std.proofs.lemmas.Bool.{and_parts, and_right, eq-eqb, ne_eqb, or_parts, both_ways}
@@ -21,7 +21,7 @@ use Rattle.syn_replay.specs.declared.report.Misuse.TheVariants.{NoFork, NoConten
 use Rattle.syn_replay.specs.Session.Acceptance.{EndedInside, is_discard}
 use Rattle.syn_replay.specs.Session.State.{Stream, AllStreams, StreamKind, outermost, content_of}
 use Rattle.syn_replay.specs.Session.State.{a_fork, first_state, is_open_at, kind_at, moved_to}
-use Rattle.syn_replay.specs.Session.State.{kinds, no_stream, spent_if, is_entered_from, gathered}
+use Rattle.syn_replay.specs.Session.State.{kinds, no_stream, spent_if, gathered}
 use Rattle.syn_replay.specs.Session.State.{reported, stream_at, stream_ended, recording}
 use Rattle.syn_replay.specs.Session.State.{recording_on_parent, with_stream, content_closed}
 use Rattle.syn_replay.specs.Session.State.{moved_to_fork, is_inside, is_or_inside}
@@ -103,8 +103,7 @@ is_advance a = false
 
 no_advance : {P : Type 0} (c : Command) (s f : ℕ) → is_advance c.action ≡ false
     → c ≡ commands.on s (commands.advance f) → P
-no_advance c s f h e =
-    absurd (both_ways (is_advance c.action) h (ap (λ z. is_advance z.action) e))
+no_advance c s f h e = grind (arith, places, both_ways)
 
 -- a command that records nothing and spends nothing
 record EndsNothing (st after : AllStreams) : Type 0 where
@@ -156,12 +155,7 @@ steps_if_nothing_ends X c st r sound other still = record {
 moved_ends_nothing : (st mid : AllStreams) → length mid ≡ length st
     → ((k : ℕ) → moved_to empty_place (stream_at mid k) ≡ moved_to empty_place (stream_at st k))
     → EndsNothing st mid
-moved_ends_nothing st mid len kept = record {
-  longer = omega (arith, len);
-  kept = λ k _. kept k;
-  records = λ k. ap (λ z. z.recorded) (kept k);
-  newer = λ k p l f. absurd (none_past st k p l (sym (ap (λ z. z.kind) (kept k)) ∙ f));
-}
+moved_ends_nothing st mid len kept = search (rules, none_past)
 
 -- and one more
 more_ends_nothing : (st mid : AllStreams) (x : Stream) → length mid ≡ length st
@@ -219,77 +213,54 @@ module _ (st : AllStreams) (sound : IsSound st) (k t : ℕ) (to : Stream → Pla
   after = stream_ended k mid
 
   looks_so : (j : ℕ) → stream_at after j ≡ spent_if (is_or_inside st k j) (stream_at mid j)
-  looks_so j =
-      ended_look mid (sound_like st mid sound same opens) k j
-      ∙ ap (λ b. spent_if (j == k || b) (stream_at mid j)) (same_inside mid st k j same)
+  looks_so j = grind (arith, places, ended_look, sound_like, same, opens, same_inside)
 
   opens_so : (j : ℕ) → is_open_at after j ≡ (is_open_at st j && not (is_or_inside st k j))
   opens_so = ended_after st mid sound same opens k
 
   kind_so : (j : ℕ) → kind_at after j ≡ kind_at st j
-  kind_so j =
-      ap (λ s. s.kind) (looks_so j) ∙ kind_if (is_or_inside st k j) (stream_at mid j)
-      ∙ same_kind mid st same j
+  kind_so j = grind (arith, places, looks_so, kind_if, same_kind, same)
 
   recorded_so : (j : ℕ) → (stream_at after j).recorded ≡ (stream_at mid j).recorded
-  recorded_so j =
-      ap (λ s. s.recorded) (looks_so j) ∙ recorded_if (is_or_inside st k j) (stream_at mid j)
+  recorded_so j = grind (arith, places, looks_so, recorded_if)
 
   given_none : IsClean after t → given ≡ None
   given_none clean = let kept = recorded_so t in let is = records t in grind arith
 
   evolve_so : AllEvolve st after
   evolve_so =
-      let len = same_length after st (kinds_from (λ n. n == k) 0 mid ∙ same) in
-      record {
-        longer = omega (arith, len);
-        kind = λ j _. kind_so j;
-        open_before = λ j _ o. (and_parts (is_open_at st j) _ (sym (opens_so j) ∙ o)).0;
-        clean_before = λ j n. let kept = recorded_so j in let is = records j in grind arith;
-      }
+      search (
+        rules,
+        same_length,
+        kinds_from,
+        same,
+        kind_so,
+        and_parts,
+        opens_so,
+        recorded_so,
+        records,
+      )
 
   -- the content of a stream that ends, ends too
   in_parent : (j p : ℕ) → kind_at st j ≡ content_of p → is_inside st k j ≡ is_or_inside st k p
-  in_parent j p f =
-      by_parent st sound.nested k j
-      ∙ ap (is_entered_from (is_or_inside st k)) f
+  in_parent j p f = grind (arith, places, by_parent)
 
   sound_so : IsSound after
-  sound_so = record {
-    nested = λ j p f. sound.nested j p (sym (kind_so j) ∙ f);
-    parent = λ j p o f.
-        let kind = sym (kind_so j) ∙ f in
-        let inside = in_parent j p kind in
-        let was = opens_so j in
-        let is = opens_so p in
-        grind (arith, sound.parent j p);
-  }
+  sound_so = search (rules, kind_so, in_parent, opens_so)
 
   whole_so : kind_at st 0 ≡ outermost → is_open_at st 0 ≡ true
       → is_open_at after 0 ≡ true
-  whole_so e o =
-      let inside = by_parent st sound.nested k 0 in
-      let other = ne_eqb 0 k (λ q. inner (ap (kind_at st) (sym q) ∙ e)) in
-      let is = opens_so 0 in
-      cc
+  whole_so e o = grind (arith, places, by_parent, ne_eqb, opens_so)
 
   ended_so : (j : ℕ) → is_or_inside st k j ≡ true → is_open_at after j ≡ false
   ended_so j e = opens_so j ∙ and_right (is_open_at st j) _ (ap not e)
 
   -- a content whose parent stays open is the stream itself
   only_own : (j p : ℕ) → EndedInside st after j p → is_open_at after p ≡ true → j ≡ k
-  only_own j p h o =
-      let inside = in_parent j p h.inside in
-      let mine = opens_so j in
-      let its = opens_so p in
-      grind (arith, h.was_open, h.ended)
+  only_own j p h o = grind (arith, places, in_parent, opens_so)
 
   own_ends : (p : ℕ) → kind_at st k ≡ content_of p → EndedInside st after k p
-  own_ends p f = record {
-    was_open = is_open;
-    inside = f;
-    ended = ended_so k (or_left (k == k) _ (eq-eqb k k refl));
-  }
+  own_ends p f = search (rules, ended_so, or_left, eq-eqb)
 
   -- streams of a set that stays clean: nothing is left inside the one that ends
   module _ (X : ℕ → Type 0) (clean : AllClean X st) where
@@ -309,14 +280,7 @@ module _ (st : AllStreams) (sound : IsSound st) (k t : ℕ) (to : Stream → Pla
 
     -- they stay clean, if what is given is nothing
     clean_so : (X t → given ≡ None) → AllClean X after
-    clean_so none j x =
-        let was = clean j x in
-        let kept = recorded_so j in
-        let is = records j in
-        elim (cases_eq j t) [
-          | inl e ↦ let nothing = none (rw e at x) in grind arith
-          | inr d ↦ grind arith
-        ]
+    clean_so none j x = grind (arith, places, recorded_so, records, cases_eq)
 
   -- So a command does this, if what is given is what the stream reports, in the ways that follow.
   ending : (X : ℕ → Type 0) (c : Command) (a : Answer)
@@ -345,13 +309,7 @@ module _ (st : AllStreams) (sound : IsSound st) (k t : ℕ) (to : Stream → Pla
   }
 
   takes : is_or_inside st k t ≡ false → given ≡ (gathered st k).recorded → Taken st after t k
-  takes outside e = record {
-    stream_was = was_open;
-    stream_is = let is = opens_so t in cc;
-    was_open = is_open;
-    ended = ended_so k (or_left (k == k) _ (eq-eqb k k refl));
-    is_gathered = λ clean. sym e ∙ given_none clean;
-  }
+  takes outside e = search (rules, opens_so, ended_so, or_left, eq-eqb, given_none)
 
 -- a content is closed
 close_steps : (X : ℕ → Type 0) (n : ℕ) (st : AllStreams) (k p : ℕ) (a : Answer) → IsSound st
@@ -415,9 +373,7 @@ fork_fits kind h = grind arith
 
 content_fits : (kind : StreamKind) → cond (is_content kind) None (Some NoContent) ≡ None
     → (p : ℕ) × (kind ≡ content_of p)
-content_fits outermost h = cc
-content_fits (content_of p) h = (p, refl)
-content_fits a_fork h = cc
+content_fits a0 a1 = grind (arith, places)
 
 on_steps : (X : ℕ → Type 0) (a : Action) (st : AllStreams) (k : ℕ) → is_open_at st k ≡ true
     → is_advance a ≡ false → kind_misuse a st k ≡ None → IsSound st
@@ -486,15 +442,10 @@ abbrev pub nothing : ℕ → Type 0
 nothing k = ⊥
 
 pub first_sound : (f : Forest) → IsSound (first_state f)
-first_sound f =
-    record { nested = λ k p g. absurd (none k p g); parent = λ k p o g. absurd (none k p g) } where
-      none : (k p : ℕ) → kind_at (first_state f) k ≡ content_of p → ⊥
-      none zero p g = cc
-      none (suc k) p g = cc
+first_sound f = search rules
 
 pub first_clean : (X : ℕ → Type 0) (f : Forest) → AllClean X (first_state f)
-first_clean X f zero x = refl
-first_clean X f (suc k) x = refl
+first_clean a0 a1 a2 a3 = grind (arith, places)
 
 pub run_sound : (st : AllStreams) (cs : List Command) → IsSound st → IsSound (last_state st cs)
 run_sound st [] sound = sound

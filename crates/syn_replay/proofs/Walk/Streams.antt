@@ -29,9 +29,7 @@ unknown_past xs n h = le-leb (length (state_of_list xs)) n (omega (arith, h, len
 pub changed_there : (xs : List Stream) (n : ℕ) (x y : Stream) (f : states.Stream → states.Stream)
     → x ≡ get_or xs n x → n < length xs → stream_of y ≡ f (stream_of x)
     → state_of_list (set xs n y) ≡ with_stream (state_of_list xs) n f
-changed_there xs n x y f e h q =
-    map-set stream_of xs n y
-    ∙ ap (set (state_of_list xs) n) (q ∙ ap f (sym (stream_there xs n x e h)))
+changed_there xs n x y f e h q = grind (arith, map-set, stream_there)
 
 pub open_there : (xs : List Stream) (n : ℕ) (x : Stream) → x ≡ get_or xs n x → n < length xs
     → is_open_at (state_of_list xs) n ≡ x.is_open
@@ -39,6 +37,4 @@ open_there xs n x e h = ap (λ s. s.is_open) (stream_there xs n x e h)
 
 pub open_listed : (xs : List Stream) (n : ℕ) (s : states.Stream) → IsOpen (state_of_list xs) n s
     → n < length xs
-open_listed xs n s here =
-    let low = open_within (state_of_list xs) n (ap (λ z. z.is_open) here.0 ∙ here.1) in
-    omega (arith, low, length-state xs)
+open_listed xs n s here = grind (arith, open_within, length-state)

@@ -5,6 +5,8 @@ use Rattle.syn_replay.specs.Meanings.{kind_of, look_of, separator_of}
 use Rattle.syn_replay.specs.Turns.{separated, terminated}
 use Rattle.syn_replay.proofs.Walk.Lines.{line_by}
 use Rattle.syn_replay.proofs.session.line.Goals as goal
+use Rattle.std.proofs.lemmas.Grind.{common_steps}
+use Rattle.std.proofs.Common.{arith}
 
 pub returns-in-Optional : goal.returns-in-Optional
 returns-in-Optional c =
@@ -13,10 +15,7 @@ returns-in-Optional c =
     (λ p q x h. search rules) c.read-in-Optional.ensures
 
 pub returns-in-Empty : goal.returns-in-Empty
-returns-in-Empty c =
-    line_by _ _ commands.empty c.in-Empty.n
-    c.args.command.now c.read-in-Empty.result _ _ (ap command_of c.in-Empty.is)
-    (λ p q x h. search rules) c.read-in-Empty.ensures
+returns-in-Empty c = grind (arith, common_steps, line_by)
 
 pub returns-in-Terminated : goal.returns-in-Terminated
 returns-in-Terminated c =
@@ -39,22 +38,13 @@ returns-in-Lookahead c =
     (λ p q x h. search rules) c.read-in-Lookahead.ensures
 
 pub returns-in-StreamSpan : goal.returns-in-StreamSpan
-returns-in-StreamSpan c =
-    line_by _ _ commands.stream_span c.in-StreamSpan.n
-    c.args.command.now c.read-in-StreamSpan.result _ _ (ap command_of c.in-StreamSpan.is)
-    (λ p q x h. search rules) c.read-in-StreamSpan.ensures
+returns-in-StreamSpan c = grind (arith, common_steps, line_by)
 
 pub returns-in-CursorSpan : goal.returns-in-CursorSpan
-returns-in-CursorSpan c =
-    line_by _ _ commands.cursor_span c.in-CursorSpan.n
-    c.args.command.now c.read-in-CursorSpan.result _ _ (ap command_of c.in-CursorSpan.is)
-    (λ p q x h. search rules) c.read-in-CursorSpan.ensures
+returns-in-CursorSpan c = grind (arith, common_steps, line_by)
 
 pub returns-in-PreviousSpan : goal.returns-in-PreviousSpan
-returns-in-PreviousSpan c =
-    line_by _ _ commands.previous_span c.in-PreviousSpan.n
-    c.args.command.now c.read-in-PreviousSpan.result _ _ (ap command_of c.in-PreviousSpan.is)
-    (λ p q x h. search rules) c.read-in-PreviousSpan.ensures
+returns-in-PreviousSpan c = grind (arith, common_steps, line_by)
 
 pub returns-in-Tree : goal.returns-in-Tree
 returns-in-Tree c =

@@ -8,6 +8,7 @@ use Rattle.syn_replay.specs.Session.Walk.{last_state, lines_from, verdict}
 use Rattle.syn_replay.proofs.Walk.Acceptance.{accepts_when}
 use Rattle.syn_replay.proofs.Walk.Received.{lines_kept}
 use Rattle.syn_replay.proofs.session.replay_in.Goals as goal
+use Rattle.std.proofs.lemmas.Grind.{common_steps}
 
 pub returns-clause-walk : goal.returns-clause-walk
 returns-clause-walk c =
@@ -27,12 +28,7 @@ returns-clause-walk c =
     ∙ ap verdict (c.in_ok-run.ensures.state ∙ ap (λ s. last_state s cs) first))
 
 pub returns-clause-errors : goal.returns-clause-errors
-returns-clause-errors c =
-    let kept =
-    lines_kept (state_of c.in_ok-streams.streams) c.args.commands.now c.in_ok-lines.lines
-    c.run.new.receiver c.in_ok-run.ensures.lines
-    (subst ArePlain (sym c.in_ok-lines.ensures.items) (λ k d h. absurd (omega (arith, h)))) in
-    (kept.1, c.in_ok-verdict.ensures.1)
+returns-clause-errors c = grind (arith, common_steps, lines_kept)
 
 pub returns-clause-acceptance : goal.returns-clause-acceptance
 returns-clause-acceptance c = search (rules, accepts_when)

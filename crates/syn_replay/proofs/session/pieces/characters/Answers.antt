@@ -2,15 +2,10 @@ use Rattle.std.proofs.Common.{rules, arith, ap, length}
 use Rattle.std.proofs.lemmas.Slice.Zip.{Zip-more, either_empty_from_Zip}
 use Rattle.syn_replay.proofs.Walk.Pieces.{all_pieces, one_more_piece}
 use Rattle.syn_replay.proofs.session.pieces.characters.Goals as goal
+use Rattle.std.proofs.lemmas.Grind.{common_steps}
 
 pub push_reserved-requires : goal.push_reserved-requires
-push_reserved-requires c =
-    let more =
-    Zip-more c.loop-byte.byte-iterator c.next.new.self c.next.result (
-      c.in-Some.field-0-0,
-      c.in-Some.field-0-1,
-    ) c.in-Some.is c.next.ensures.steps in
-    omega (arith, ap length more.0, c.loop-byte.invariant.room)
+push_reserved-requires c = grind (arith, common_steps, c.next.ensures.steps)
 
 pub loop-byte-preserved : goal.loop-byte-preserved
 loop-byte-preserved c =

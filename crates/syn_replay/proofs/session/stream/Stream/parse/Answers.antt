@@ -1,4 +1,4 @@
-use Rattle.std.proofs.Common.{◌∙◌, ap, subst, Ok, Err}
+use Rattle.std.proofs.Common.{◌∙◌, ap, subst, Err}
 use Rattle.syn_parse.specs.declared.fault.Fault.TheVariants as fault
 use Rattle.syn_replay.specs.Commands as commands
 use Rattle.syn_replay.specs.Kinds.{kind_missing, read}
@@ -10,20 +10,12 @@ use Rattle.syn_replay.specs.declared.report.Answer.TheVariants as answer
 use Rattle.syn_replay.proofs.Walk.Lines.{line_read}
 use Rattle.syn_replay.proofs.Walk.Parsed.{error_parsed, pieces_parsed}
 use Rattle.syn_replay.proofs.session.stream.Stream.parse.Goals as goal
+use Rattle.std.proofs.lemmas.Grind.{common_steps}
+use Rattle.std.proofs.Common.{arith}
 
 pub returns-in-Ok-clause-line : goal.returns-in-Ok-clause-line
 returns-in-Ok-clause-line c =
-    let s = stream_of c.args.self.now in
-    let t = c.parse-pieces.new.input in
-    let k = kind_of c.args.kind in
-    let ps = c.in-Ok.pieces in
-    let said =
-    pieces_parsed k (parse_state s) t ps
-    (subst (λ u. ReadsPieces (read k u.place) (kind_missing k u) u (Ok ps) t)
-    c.resume-input.ensures c.in-Ok.ensures) in
-    line_read s _ c.position_at-position.result t (ap (λ u. moved_as u s) c.pause-self.ensures)
-    (c.position_at-position.ensures ∙ ap printed_position c.cursor.ensures) (commands.parse k)
-    (answer.Read ps) said.0 said.1
+    grind (arith, common_steps, pieces_parsed, line_read, c.cursor.ensures)
 
 pub returns-in-Err-Refused-clause-line : goal.returns-in-Err-Refused-clause-line
 returns-in-Err-Refused-clause-line c =

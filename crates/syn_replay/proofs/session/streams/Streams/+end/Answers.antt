@@ -16,6 +16,8 @@ use Rattle.syn_replay.proofs.Walk.Links.{above_listed, listed_at, listed_set}
 use Rattle.syn_replay.proofs.Walk.Streams.{changed_there, length-state, open_there}
 use Rattle.syn_replay.proofs.session.streams.Streams.+end.Goals as goal
 use Rattle.syn_replay.proofs.session.streams.Streams.+end.Goals.{then-index, else-index}
+use Rattle.std.proofs.lemmas.Grind.{common_steps}
+use Rattle.std.proofs.Common.{rules}
 
 module _ (s : Streams) (k : ℕ) (o : is_open_at (state_of s) k ≡ true) where
   abbrev xs : List Stream
@@ -39,16 +41,12 @@ module _ (s : Streams) (k : ℕ) (o : is_open_at (state_of s) k ≡ true) where
   module _ (zs : List Stream) (index : ℕ)
       (on : EndsOn (state_of s) k (state_of_list zs) index) where
     as_many : length zs ≡ length xs
-    as_many =
-        let len = ends_length (state_of s) k (state_of_list zs) index on in
-        omega (arith, len, length-state xs, length-state zs)
+    as_many = grind (arith, common_steps, ends_length, length-state)
 
     -- the list of contents stays
     lists : AreListed zs → (z : Stream) → z ≡ get_or zs k z
         → z.contents.items ≡ own_contents (state_of s) k
-    lists listed z e =
-        (listed_at zs k z listed e (omega (arith, within, as_many))).listed
-        ∙ ends_list (state_of s) k (state_of_list zs) index on
+    lists listed z e = grind (arith, common_steps, listed_at, within, as_many, ends_list)
 
   -- a turn of the loop over the contents that there were at first
   module _ (x : Stream) (e : x ≡ get_or xs k x) (w : Stream) (f : w ≡ get_or (ys x e) k w) where
@@ -66,57 +64,40 @@ module _ (s : Streams) (k : ℕ) (o : is_open_at (state_of s) k ≡ true) where
             × (i ≡ get_or (own_contents (state_of s) k) index i)
             × (k < i) × (i < length now.list.items)
         in_turn =
-            let inside : index < length (own_contents (state_of s) k) = omega (arith, h, count) in
-            let at = is ∙ ap (λ ks. get_or ks index i) lists_now in
-            let w = contents_within k (state_of s) index i inside at in
-            let len = as_many now.list.items index on in
-            (inside, at, w.0, omega (arith, w.1, len, length-state xs))
+            grind (
+              arith,
+              common_steps,
+              own_contents,
+              count,
+              lists_now,
+              contents_within,
+              as_many,
+              length-state,
+            )
 
 pub invariant_of-self : goal.invariant_of-self
-invariant_of-self t c =
-    let s = c.args.self.now in
-    let x = c.index_mut.result.now in
-    record {
-      rooted =
-          omega (arith, length-set s.list.items c.args.k (record x { is_open = false }), s.rooted);
-      listed = ys_listed s c.args.k c.requires x c.index_mut.ensures.value;
-    }
+invariant_of-self t c = search (rules, length-set, ys_listed)
 
 pub index-requires : goal.index-requires
-index-requires t c =
-    let s = c.args.self.now in
-    omega (arith, s.list.ok.0, within s c.args.k c.requires)
+index-requires t c = grind (arith, common_steps, within, c.requires)
 
 pub loop-index-init : goal.loop-index-init
 loop-index-init t c =
     begins c.args.self.now c.args.k c.requires c.index_mut.result.now c.index_mut.ensures.value
 
 pub index-requires-in-loop-index : goal.index-requires-in-loop-index
-index-requires-in-loop-index t c =
-    let s = c.args.self.now in
-    let v = c.loop-index.self.list in
-    let len =
-    as_many s c.args.k c.requires v.items c.loop-index.index c.loop-index.invariant in
-    omega (arith, v.ok.0, within s c.args.k c.requires, len)
+index-requires-in-loop-index t c = grind (arith, common_steps, as_many, within, c.requires)
 
 pub index-i-requires : goal.index-i-requires
 index-i-requires t c =
-    let s = c.args.self.now in
-    let x = c.index_mut.result.now in
-    let z = c.index-in-loop-index.result.now in
-    let w = c.index.result.now in
-    let all = count s c.args.k c.requires x c.index_mut.ensures.value w c.index.ensures in
-    let now =
-    lists_now s c.args.k c.requires x c.index_mut.ensures.value w c.index.ensures c.loop-index.self
-    c.loop-index.index c.loop-index.invariant z c.index-in-loop-index.ensures in
-    omega (
+    grind (
       arith,
-      all,
-      ap length now,
-      w.contents.ok.0,
-      z.contents.ok.0,
-      c.loop-index-test.true,
-      c.len-index-end.ensures,
+      common_steps,
+      count,
+      lists_now,
+      c.requires,
+      c.index_mut.ensures.value,
+      c.index.ensures,
     )
 
 pub index-requires-in-loop-index-2 : goal.index-requires-in-loop-index-2
@@ -180,10 +161,12 @@ loop-index-preserved t c =
 
 pub returns : goal.returns
 returns t c =
-    let s = c.args.self.now in
-    let w = c.index.result.now in
-    let x = c.index_mut.result.now in
-    let all = count s c.args.k c.requires x c.index_mut.ensures.value w c.index.ensures in
-    ends_last (state_of s) c.args.k (state_of c.loop-index.self) c.loop-index.index
-    c.loop-index.invariant
-    (omega (arith, all, w.contents.ok.0, c.loop-index-test.false, c.len-index-end.ensures))
+    grind (
+      arith,
+      common_steps,
+      count,
+      ends_last,
+      c.requires,
+      c.index_mut.ensures.value,
+      c.index.ensures,
+    )

@@ -9,6 +9,7 @@ use Rattle.syn_replay.proofs.Walk.Links.{above_listed, listed_at}
 use Rattle.syn_replay.proofs.Walk.Streams.{length-state, open_there, stream_there}
 use Rattle.syn_replay.proofs.session.streams.Streams.+gathered.Goals as goal
 use Rattle.syn_replay.proofs.session.streams.Streams.+gathered.Goals.{then-index, else-index}
+use Rattle.std.proofs.lemmas.Grind.{common_steps}
 
 module _ (s : Streams) (n : ℕ) (x : Stream) (e : x ≡ get_or s.list.items n x)
     (h : n < length (state_of s)) where
@@ -26,12 +27,7 @@ module _ (s : Streams) (n : ℕ) (x : Stream) (e : x ≡ get_or s.list.items n x
       (is : i ≡ get_or x.contents.items index i) where
     in_turn : (index < length numbers) × (i ≡ get_or numbers index i) × (n < i)
         × (i < length s.list.items)
-    in_turn =
-        let inside : index < length numbers = omega (arith, less, ap length lists) in
-        let at : i ≡ get_or numbers index i = is ∙ ap (λ ks. get_or ks index i) lists in
-        let w =
-        gathers_within (state_of s) (above_listed s.list.items s.listed) n index i inside at in
-        (inside, at, w.0, omega (arith, w.1, length-state s.list.items))
+    in_turn = grind (arith, lists, gathers_within, above_listed, length-state)
 
 pub loop-index-init : goal.loop-index-init
 loop-index-init t c =
@@ -93,10 +89,4 @@ loop-index-preserved t c =
     ]
 
 pub returns : goal.returns
-returns t c =
-    let s = c.args.self.now in
-    let x = c.index-stream.result.now in
-    let all = ap length (lists s c.args.n x c.index-stream.ensures c.requires) in
-    gathers_last (state_of s) (above_listed s.list.items s.listed) c.args.n c.loop-index.input
-    c.loop-index.index c.loop-index.invariant
-    (omega (arith, all, x.contents.ok.0, c.loop-index-test.false, c.len-index-end.ensures))
+returns t c = grind (arith, common_steps, lists, gathers_last, above_listed, c.requires)

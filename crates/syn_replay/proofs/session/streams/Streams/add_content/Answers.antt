@@ -11,6 +11,7 @@ use Rattle.syn_replay.specs.declared.session.stream.Stream.{Stream}
 use Rattle.syn_replay.proofs.Walk.Links.{listed_with_content, listed_set}
 use Rattle.syn_replay.proofs.Walk.Streams.{changed_there, length-state}
 use Rattle.syn_replay.proofs.session.streams.Streams.add_content.Goals as goal
+use Rattle.std.proofs.lemmas.Grind.{common_steps}
 
 on_err : {T E : Type 0} (r : Result T E) (P : Type 0) → P → OnErr r P
 on_err (Ok x) P p = tt
@@ -35,11 +36,7 @@ invariant_of-self-in-Break-branch-2 c =
 
 pub returns-in_err-push-clause-err : goal.returns-in_err-push-clause-err
 returns-in_err-push-clause-err c =
-    let x = c.index_mut-stream.result.now in
-    on_err c.from_residual-in_err-push.result _
-    (map-set_same stream_of c.reserve.new.self.items c.args.n
-    (record x { contents = c.push.new.self }) x (ap stream_of c.index_mut-stream.ensures.value)
-    ∙ ap state_of_list c.reserve.ensures.items)
+    grind (arith, common_steps, on_err, map-set_same, c.reserve.ensures.items)
 
 pub invariant_of-self-2 : goal.invariant_of-self-2
 invariant_of-self-2 c =

@@ -3,7 +3,7 @@ use Rattle.std.specs.Prelude.{cond, Option}
 use Rattle.syn_parse.specs.Pauses.{paused_state}
 use Rattle.syn_parse.specs.State as parse
 use Rattle.syn_replay.specs.Commands as commands
-use Rattle.syn_replay.specs.Session.State.{content_of, is_open_at, kind_at, moved_as, parse_state, printed_position}
+use Rattle.syn_replay.specs.Session.State.{content_of, kind_at, moved_as, parse_state, printed_position}
 use Rattle.syn_replay.specs.Session.State.{stream_ended, with_stream}
 use Rattle.syn_replay.specs.Session.Step.{is_content, stream_position}
 use Rattle.syn_replay.specs.Session.Stream.{stream_kind, stream_of}
@@ -21,6 +21,7 @@ use Rattle.syn_replay.proofs.Walk.Positions.{position_ended, position_open, posi
 use Rattle.syn_replay.proofs.Walk.Streams.{length-state, stream_there}
 use Rattle.syn_replay.specs.Session.Promises.{IsOpen}
 use Rattle.syn_replay.proofs.session.streams.Streams.close.Goals as goal
+use Rattle.std.proofs.lemmas.Grind.{common_steps}
 
 -- an open content has a parent with a lower number
 module _ (s : Streams) (n p : ℕ) (x : Stream) (here : IsOpen (state_of s) n (stream_of x))
@@ -29,30 +30,16 @@ module _ (s : Streams) (n p : ℕ) (x : Stream) (here : IsOpen (state_of s) n (s
   kind = ap (λ z. z.kind) here.0 ∙ ap (stream_kind x.is_fork) is
 
   parent_there : p < length (state_of s)
-  parent_there =
-      let below = above_listed s.list.items s.listed n p kind in
-      let low = open_within (state_of s) n (ap (λ z. z.is_open) here.0 ∙ here.1) in
-      omega (arith, below, low)
+  parent_there = grind (arith, above_listed, kind, open_within)
 
 pub index-requires : goal.index-requires
-index-requires c =
-    let s = c.args.self.now in
-    let low =
-    parent_there s c.args.n c.in-Some.parent c.in-Ok.stream.now (c.in-Ok.ensures {u = tt})
-    c.in-Some.is in
-    omega (arith, s.list.ok.0, low, length-state s.list.items)
+index-requires c = grind (arith, parent_there, length-state, c.args.self.now, c.args.n)
 
 pub move_to-requires : goal.move_to-requires
-move_to-requires c =
-    parent_there c.args.self.now c.args.n c.in-Some.parent c.in-Ok.stream.now
-    (c.in-Ok.ensures {u = tt}) c.in-Some.is
+move_to-requires c = grind (arith, common_steps, parent_there)
 
 pub end-requires : goal.end-requires
-end-requires c =
-    let (here, is_open) = c.in-Ok.ensures {u = tt} in
-    ap (λ z. is_open_at z c.args.n) c.move_to.ensures
-    ∙ open_moved (state_of c.args.self.now) c.in-Some.parent c.args.n (paused_state c.pause.result)
-    ∙ ap (λ z. z.is_open) here ∙ is_open
+end-requires c = grind (arith, common_steps, open_moved, c.move_to.ensures)
 
 pub returns : goal.returns
 returns c =

@@ -1,13 +1,10 @@
 use Rattle.std.proofs.Common.{arith}
 use Rattle.syn_replay.proofs.Walk.Streams.{known_there, stream_there, unknown_past}
 use Rattle.syn_replay.proofs.session.streams.Streams.get.Goals as goal
+use Rattle.std.proofs.lemmas.Grind.{common_steps}
 
 pub returns-then-n-len : goal.returns-then-n-len
-returns-then-n-len c =
-    let v = c.args.self.now.list in (
-      known_there v.items c.args.n (omega (arith, v.ok.0)),
-      stream_there v.items c.args.n c.index.result.now c.index.ensures (omega (arith, v.ok.0)),
-    )
+returns-then-n-len c = grind (arith, common_steps, known_there, stream_there, c.index.ensures)
 
 pub returns-else-n-len : goal.returns-else-n-len
 returns-else-n-len c =

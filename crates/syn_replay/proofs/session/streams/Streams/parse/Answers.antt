@@ -8,11 +8,10 @@ use Rattle.syn_replay.proofs.Walk.Lines.{line_there}
 use Rattle.syn_replay.proofs.Walk.Links.{listed_set}
 use Rattle.syn_replay.proofs.Walk.Streams.{changed_there, open_listed, stream_there}
 use Rattle.syn_replay.proofs.session.streams.Streams.parse.Goals as goal
+use Rattle.std.proofs.lemmas.Grind.{common_steps}
 
 pub index_mut-requires : goal.index_mut-requires
-index_mut-requires c =
-    let v = c.args.self.now.list in
-    omega (arith, v.ok.0, open_listed v.items c.args.n _ (c.in-Ok.ensures {u = tt}))
+index_mut-requires c = grind (arith, common_steps, open_listed)
 
 pub invariant_of-self : goal.invariant_of-self
 invariant_of-self c =
