@@ -1,6 +1,6 @@
 -- A truth value, where an identifier is read.
-use Rattle.std.proofs.Common.{◌≡◌, ◌∙◌, sym, ap, subst, refl, arith, ℕ, Bool, true, false, cond}
-use Rattle.std.proofs.Common.{List, [], ◌∷◌, Option, Some, None, Ok, Err, is_some, ◌||◌}
+use Rattle.std.proofs.Common.{◌≡◌, ◌∙◌, sym, ap, refl, arith, ℕ, Bool, true, false, cond}
+use Rattle.std.proofs.Common.{List, [], ◌∷◌, Option, Some, None, Err, is_some, ◌||◌}
 use Rattle.std.proofs.Common.{zero, suc, ◌<◌}
 use Rattle.std.proofs.lemmas.Bool.{and_from, and_parts, false≢true, ltb-true}
 use Rattle.std.proofs.lemmas.Slice.Eq.{bytes_eq-Decides}
@@ -12,45 +12,34 @@ use Rattle.std.specs.Str.{chars}
 use Rattle.unicode_ident.specs.Ident.{is_xid_continue}
 use Rattle.unicode_ident.proofs.IdentLemmas.{is_xid_continue-ascii, is_xid_start-ascii}
 use Rattle.tok_lexical.specs.Words.{IsIdentifier}
-use Rattle.tok_leaves.specs.declared.span.Span.{Span}
-use Rattle.tok_leaves.specs.Leaves.{ident, punct, literal}
-use Rattle.tok_core.specs.Forest.{Forest, Tree, leaf, group, no_trees, tree}
+use Rattle.tok_core.specs.Forest.{Forest, Tree}
 use Rattle.tok_buffer.specs.Descent.{descend}
-use Rattle.tok_buffer.specs.Place.{frame, Place, empty_place, at, pass}
+use Rattle.tok_buffer.specs.Place.{Place}
 use Rattle.tok_buffer.specs.Reads.{is_ident, is_ident_of, read_if, read_keyword, read_word}
 use Rattle.tok_buffer.specs.declared.error.Message.{Message}
 use Rattle.tok_values.specs.Strings.{bool_of}
-use Rattle.tok_types.specs.Texts.{in_backquotes}
-use Rattle.syn_parse.specs.ErrorWords.{expected, refused_at}
 use Rattle.syn_parse.specs.Parses.{IsSpanOf, WordParses}
 use Rattle.syn_parse.specs.Reads.{TreesRead, ReadsAtOnce}
 use Rattle.syn_parse.specs.State.{State}
 use Rattle.syn_parse.specs.declared.fault.Fault.{Fault}
-use Rattle.syn_literals.specs.Kinds.{BoolParses, IsBool, bool_text, is_bool, read_bool, value_in}
+use Rattle.syn_literals.specs.Kinds.{bool_text, is_bool, read_bool, value_in}
 
 -- the text of a value
 module _ (text : List ℕ) where
   by-tests : (a b v : Bool) → bytes_eq text (codes "true") ≡ a → bytes_eq text (codes "false") ≡ b
       → cond a (Some true) (cond b (Some false) None) ≡ Some v → text ≡ bool_text v
-  by-tests true b true e f h = (bytes_eq-Decides text (codes "true")).0 e
-  by-tests true b false e f h = absurd (cc)
-  by-tests false true false e f h = (bytes_eq-Decides text (codes "false")).0 f
-  by-tests false true true e f h = absurd (cc)
-  by-tests false false v e f h = absurd (cc)
+  by-tests a b v e f h = grind (arith, bytes_eq-Decides)
 
   pub text_of_value : (v : Bool) → bool_of text ≡ Some v → text ≡ bool_text v
-  text_of_value v h =
-      by-tests (bytes_eq text (codes "true")) (bytes_eq text (codes "false")) v refl refl h
+  text_of_value v h = grind (arith, by-tests)
 
 -- the keyword of a value's text
 keyword_of : (v : Bool) (p : Place)
     → read_keyword (bool_text v) p ≡ read_word (bytes_eq (bool_text v)) p
-keyword_of true p = refl
-keyword_of false p = refl
+keyword_of v p = grind arith
 
 same_text : (v : Bool) → bytes_eq (bool_text v) (bool_text v) ≡ true
-same_text true = refl
-same_text false = refl
+same_text v = grind arith
 
 abbrev Reading : Type 0
 Reading = Option (List Tree × Place)
@@ -59,46 +48,18 @@ Reading = Option (List Tree × Place)
 word_read : (q : Place) (v : Bool) → value_in (read_if is_ident q) ≡ Some v
     → (read_if (is_ident_of is_bool) q ≡ read_if (is_ident_of (bytes_eq (bool_text v))) q)
     × (is_some (read_if (is_ident_of is_bool) q) ≡ true)
-word_read empty_place v h = absurd (cc)
-word_read (at k s n (frame o p no_trees) us) v h = absurd (cc)
-word_read (at k s n (frame o p (tree (group d c t) f)) us) v h = absurd (cc)
-word_read (at k s n (frame o p (tree (leaf (punct c j t)) f)) us) v h = absurd (cc)
-word_read (at k s n (frame o p (tree (leaf (literal x t)) f)) us) v h = absurd (cc)
-word_read (at k s n (frame o p (tree (leaf (ident x t)) f)) us) v h =
-    let a = ap is_some h in
-    let b = ap (bytes_eq (bool_text v)) (text_of_value x v h) ∙ same_text v in (
-      ap (λ z. cond {A = Reading} z (Some (
-        leaf (ident x t) ∷ [],
-        pass (at k s n (frame o p (tree (leaf (ident x t)) f)) us),
-      )) None) (a ∙ sym b),
-      ap (λ z. is_some (cond {A = Reading} z (Some (
-        leaf (ident x t) ∷ [],
-        pass (at k s n (frame o p (tree (leaf (ident x t)) f)) us),
-      )) None)) a,
-    )
+word_read q v h = grind (arith, text_of_value, same_text)
 
 no_word : (q : Place) → value_in (read_if is_ident q) ≡ None
     → read_if (is_ident_of is_bool) q ≡ None
-no_word empty_place h = refl
-no_word (at k s n (frame o p no_trees) us) h = refl
-no_word (at k s n (frame o p (tree (group d c t) f)) us) h = refl
-no_word (at k s n (frame o p (tree (leaf (punct c j t)) f)) us) h = refl
-no_word (at k s n (frame o p (tree (leaf (literal x t)) f)) us) h = refl
-no_word (at k s n (frame o p (tree (leaf (ident x t)) f)) us) h =
-    ap (λ z. cond {A = Reading} z (Some (
-      leaf (ident x t) ∷ [],
-      pass (at k s n (frame o p (tree (leaf (ident x t)) f)) us),
-    )) None) (ap is_some h)
+no_word q h = grind arith
 
 pub no_bool : (p : Place) → read_bool p ≡ None → read_word is_bool p ≡ None
 no_bool p h = no_word (descend p) h
 
 -- a peek of the value is one of the word
 pub bool_peeked : (p : Place) → is_some (read_bool p) ≡ is_some (read_word is_bool p)
-bool_peeked p = go (read_bool p) refl where
-  go : (x : Option Bool) → read_bool p ≡ x → is_some x ≡ is_some (read_word is_bool p)
-  go None e = ap is_some (sym (no_bool p e))
-  go (Some v) e = sym (word_read (descend p) v e).1
+bool_peeked p = grind (arith, no_bool, word_read)
 
 module _ (s t : State) (v : Bool) (is : read_bool s.place ≡ Some v) where
   word-is : read_word is_bool s.place ≡ read_keyword (bool_text v) s.place
@@ -107,32 +68,13 @@ module _ (s t : State) (v : Bool) (is : read_bool s.place ≡ Some v) where
   some : is_some (read_word is_bool s.place) ≡ true
   some = (word_read (descend s.place) v is).1
 
-  made : (span : Span) (m n : Message) (x : TreesRead)
-      → ReadsAtOnce (IsSpanOf (bool_text v)) x m s (Ok span) t
-      → ReadsAtOnce IsBool x n s (Ok (record { value = v; span = span })) t
-  made span m n None h = absurd h
-  made span m n (Some r) h = h
-
-  pub bool_made : (span : Span) → WordParses (λ span. span) (bool_text v) s (Ok span) t
-      → BoolParses s (Ok (record { value = v; span = span })) t
-  bool_made span h =
-      made span _ _ (read_word is_bool s.place)
-      (subst
-      (λ x. ReadsAtOnce (IsSpanOf (bool_text v)) x
-      (refused_at s (expected (in_backquotes (bool_text v)))) s (Ok span) t) (sym word-is) h)
-
   never : (f : Fault) (m : Message) (x : TreesRead) → is_some x ≡ true
       → ReadsAtOnce (IsSpanOf (bool_text v)) x m s (Err f) t → ⊥
-  never f m None e h = false≢true e
-  never f m (Some r) e h = h
+  never f m x e h = grind (arith, false≢true)
 
   -- the word is there, so its parse is no error
   pub bool_never_fails : (f : Fault) → WordParses (λ span. span) (bool_text v) s (Err f) t → ⊥
-  bool_never_fails f h =
-      never f _ (read_word is_bool s.place) some
-      (subst
-      (λ x. ReadsAtOnce (IsSpanOf (bool_text v)) x
-      (refused_at s (expected (in_backquotes (bool_text v)))) s (Err f) t) (sym word-is) h)
+  bool_never_fails f h = grind (arith, never, some, word-is)
 
 -- the texts are identifiers
 abbrev is_ascii : List ℕ → Bool
@@ -156,17 +98,11 @@ continues (c ∷ cs) a h =
 named : (c : ℕ) (cs : List ℕ) → is_ascii (c ∷ cs) ≡ true → is_ascii_alphabetic c ≡ true
     → list_all is_ascii_alphanumeric cs ≡ true → IsIdentifier (chars (c ∷ cs))
 named c cs a start rest =
-    let ascii = and_parts (nat_lt c 128) (is_ascii cs) a in
-    subst IsIdentifier (sym (chars-IsAscii (c ∷ cs) (ascii_at (c ∷ cs) a))) (
-      ap (λ b. b || (c == 95)) (is_xid_start-ascii c (ltb-true c 128 ascii.0) ∙ start),
-      continues cs ascii.1 rest,
-    )
+    grind (arith, and_parts, chars-IsAscii, ascii_at, is_xid_start-ascii, ltb-true, continues)
 
 pub bool_identifier : (v : Bool) → IsIdentifier (chars (bool_text v))
-bool_identifier true = named 116 (114 ∷ (117 ∷ (101 ∷ []))) refl refl refl
-bool_identifier false = named 102 (97 ∷ (108 ∷ (115 ∷ (101 ∷ [])))) refl refl refl
+bool_identifier v = grind (arith, named)
 
 -- what an error leaves as it was
 pub still : {T E : Type 0} (r : Result T E) (f : Forest) → OnErr r (f ≡ f)
-still (Ok v) f = tt
-still (Err e) f = refl
+still r f = grind arith

@@ -1,10 +1,8 @@
 -- Literals of a kind take what is ahead, and peeks see it.
-use Rattle.std.proofs.Common.{◌≡◌, ◌∙◌, sym, ap, refl, ℕ, Bool, true, false, List, [], ◌∷◌}
+use Rattle.std.proofs.Common.{arith, ◌≡◌, ◌∙◌, sym, ap, refl, ℕ, Bool, List}
 use Rattle.std.specs.Prelude.{Result, codes}
 use Rattle.tok_leaves.specs.declared.literal.Literal.{Literal}
-use Rattle.tok_leaves.specs.declared.span.Span.{Span}
-use Rattle.tok_leaves.specs.Leaves.{ident}
-use Rattle.tok_core.specs.Forest.{Tree, leaf}
+use Rattle.tok_core.specs.Forest.{Tree}
 use Rattle.tok_buffer.specs.EachRead.{first_if}
 use Rattle.tok_buffer.specs.Place.{Place}
 use Rattle.tok_buffer.specs.Reads.{is_ident_of, read_word}
@@ -20,7 +18,7 @@ use Rattle.syn_parse.specs.Takes.{Takes, missing_next}
 use Rattle.syn_parse.specs.Tokens.{literal_in}
 use Rattle.syn_parse.specs.declared.fault.Fault.{Fault}
 use Rattle.syn_parse.proofs.Told.{here_told, read_told, told-at-once}
-use Rattle.syn_literals.specs.Kinds.{BoolParses, IsBool, KindParses, bool_text, is_bool, is_float}
+use Rattle.syn_literals.specs.Kinds.{BoolParses, IsBool, KindParses, is_bool, is_float}
 use Rattle.syn_literals.specs.Kinds.{is_integer, is_literal_of, is_string, read_literal_of}
 use Rattle.syn_literals.specs.TakeLiterals.{bool_first, bool_in, float_first, integer_first}
 use Rattle.syn_literals.specs.TakeLiterals.{string_first, take_bool, take_float, take_integer}
@@ -53,11 +51,7 @@ unfolding take_float
 float_told s r t h = kind_told is_float (codes "expected floating point literal") s r t h
 
 bool_fits : (v : LitBool) (ts : List Tree) → IsBool v ts → v ≡ bool_in ts
-bool_fits v ts m = by-value v.value v.span ∙ sym (ap bool_in m) where
-  by-value : (value : Bool) (span : Span)
-      → record { value = value; span = span } ≡ bool_in (leaf (ident (bool_text value) span) ∷ [])
-  by-value true span = refl
-  by-value false span = refl
+bool_fits v ts m = grind arith
 
 pub bool_told : (s : State) (r : Result LitBool Fault) (t : State) → BoolParses s r t
     → Takes take_bool s r t

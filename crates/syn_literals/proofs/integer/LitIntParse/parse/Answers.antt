@@ -1,6 +1,7 @@
+use Rattle.std.proofs.lemmas.Grind.{common_steps}
+use Rattle.std.proofs.Common.{arith}
 use Rattle.syn_literals.proofs.Told.{integer_told}
 use Rattle.syn_literals.proofs.integer.LitIntParse.parse.Goals as goal
 
 pub returns-clause-takes : goal.returns-clause-takes
-returns-clause-takes c =
-    integer_told c.args.input.now c.parsed.result c.parsed.new.input c.parsed.ensures
+returns-clause-takes c = grind (arith, common_steps, integer_told)
