@@ -1,5 +1,5 @@
 -- A value that is parsed on a fork, by the visible trees ahead.
-use Rattle.std.proofs.Common.{◌≡◌, ◌∙◌, sym, subst, ap, refl, inl, inr}
+use Rattle.std.proofs.Common.{arith, ◌≡◌}
 use Rattle.std.proofs.Common.{false, Option, Some, None, Ok, Err}
 use Rattle.std.specs.Prelude.{Result, option_map}
 use Rattle.tok_buffer.specs.Order.{same_scope}
@@ -8,15 +8,13 @@ use Rattle.syn_parse.proofs.Failing.{says_memory, stays_here}
 use Rattle.syn_parse.proofs.Premises.{given, under}
 use Rattle.syn_parse.proofs.Scopes.{advanced_ahead, in_one_scope}
 use Rattle.syn_parse.specs.Faults.{IsMemory}
-use Rattle.syn_parse.specs.Positions.{scope_trees}
 use Rattle.syn_parse.specs.Reads.{Call}
 use Rattle.syn_parse.specs.State.{State, advanced, forked}
 use Rattle.syn_parse.specs.Takes.{IsMissing, Outcome, TakesAs, Taking, found}
-use Rattle.syn_parse.specs.Takes.{TakeEach, Takes, missing}
+use Rattle.syn_parse.specs.Takes.{TakeEach, Takes}
 use Rattle.syn_parse.specs.Takings.{Keeps, Takings, stated, untold}
 use Rattle.syn_parse.specs.TreesAhead.{ahead, only_trees}
 use Rattle.syn_parse.specs.declared.fault.Fault.{Fault}
-use Rattle.syn_parse.specs.declared.fault.Fault.TheVariants.{Memory, Refused}
 
 module _ {T A : Type 0} (form : T → A) (take : Taking A) where
   abbrev on-fork : State → Outcome A
@@ -25,49 +23,30 @@ module _ {T A : Type 0} (form : T → A) (take : Taking A) where
   some-found : (s fork : State) (v : T) → TakesAs form take (forked s) (Ok v) fork
       → TakesAs (option_map form) (take_attempt take) s (Ok (Some v)) (advanced fork s)
   unfolding take_attempt
-  some-found s fork v h = (
-    ap (attempt_of (ahead s)) h.0
-        ∙ ap (found (Some (form v))) (sym (advanced_ahead fork s)),
-    (h.1.0, h.1.1, h.1.2, h.1.3, refl),
-  )
+  some-found s fork v h = grind (arith, advanced_ahead)
 
   is-none : (s : State) (o : Outcome A) → IsMissing o
       → attempt_of (ahead s) o ≡ found None (ahead s)
-  is-none s (found v b) h = absurd h
-  is-none s (missing m) h = refl
+  is-none s o h = grind arith
 
   none-found : (s fork : State) (e : Fault) → TakesAs form take (forked s) (Err e) fork
       → (IsMemory e → ⊥) → TakesAs (option_map form) (take_attempt take) s (Ok None) s
   unfolding take_attempt
-  none-found s fork (Refused e) h k = (is-none s (on-fork s) h.0.0, stays_here s)
-  none-found s fork (Memory e) h k = absurd (k tt)
+  none-found s fork e h k = grind (arith, is-none, stays_here)
 
   no-memory : (s : State) (e : Fault) → IsMemory e
       → TakesAs (option_map form) (take_attempt take) s (Err e) s
-  no-memory s (Refused e) h = absurd h
-  no-memory s (Memory e) h =
-      (tt, λ i. says_memory (scope_trees s.place) s.scope_span (take_attempt take (ahead s)) e)
+  no-memory s e h = grind (arith, says_memory)
 
   in-scope : (s fork : State) (v : T) → TakesAs form take (forked s) (Ok v) fork
       → same_scope s.place fork.place ≡ false → ⊥
-  in-scope s fork v h e =
-      let k = in_one_scope s.place fork.place h.1.1 in
-      cc
+  in-scope s fork v h e = grind (arith, in_one_scope)
 
   attempt-takes : (calls : Call T) (s : State)
       → ((r : Result T Fault) (t : State) → calls (forked s) r t → TakesAs form take (forked s) r t)
       → (r : Result (Option T) Fault) (t : State) → Attempts calls s r t
       → TakesAs (option_map form) (take_attempt take) s r t
-  attempt-takes calls s h (Ok (Some v)) t (fork, c, e, k) =
-      subst (TakesAs (option_map form) (take_attempt take) s (Ok (Some v))) (sym k)
-      (some-found s fork v (h (Ok v) fork c))
-  attempt-takes calls s h (Ok None) t (e, fork, c, n, k) =
-      subst (TakesAs (option_map form) (take_attempt take) s (Ok None)) (sym k)
-      (none-found s fork e (h (Err e) fork c) n)
-  attempt-takes calls s h (Err e) t (inl (fork, c, m), k) =
-      subst (TakesAs (option_map form) (take_attempt take) s (Err e)) (sym k) (no-memory s e m)
-  attempt-takes calls s h (Err e) t (inr (v, fork, c, o, w), k) =
-      absurd (in-scope s fork v (h (Ok v) fork c) o)
+  attempt-takes calls s h r t k = grind (arith, some-found, none-found, no-memory, in-scope)
 
 -- an attempt keeps what each call of its parser does
 pub attempt_keeps : {T : Type 0} (takes : Takings T) (calls : Call T)
@@ -84,14 +63,7 @@ pub attempts_by : {T : Type 0} (calls others : Call T)
     → ((s : State) (r : Result T Fault) (t : State) → calls s r t → others s r t)
     → (s : State) (r : Result (Option T) Fault) (t : State) → Attempts calls s r t
     → Attempts others s r t
-attempts_by calls others h s (Ok (Some v)) t (fork, c, e, k) =
-    (fork, h (forked s) (Ok v) fork c, e, k)
-attempts_by calls others h s (Ok None) t (e, fork, c, n, k) =
-    (e, fork, h (forked s) (Err e) fork c, n, k)
-attempts_by calls others h s (Err e) t (inl (fork, c, m), k) =
-    (inl (fork, h (forked s) (Err e) fork c, m), k)
-attempts_by calls others h s (Err e) t (inr (v, fork, c, o, w), k) =
-    (inr (v, fork, h (forked s) (Ok v) fork c, o, w), k)
+attempts_by calls others h s r t k = grind arith
 
 -- an attempt of a value that is taken as it is
 pub attempt_takes : {T : Type 0} (value : Taking T) (calls : Call T)

@@ -1,5 +1,5 @@
 -- A loop of a function, call by call.
-use Rattle.std.proofs.Common.{◌≡◌, ◌+◌, ◌-◌, ◌<◌, ◌≤◌, ◌⊎◌, ℕ, ap, arith, sym, subst, inl, inr}
+use Rattle.std.proofs.Common.{◌≡◌, ◌+◌, ◌-◌, ◌<◌, ◌≤◌, ◌⊎◌, ℕ, ap, arith, sym, subst}
 use Rattle.std.proofs.Common.{Bool, true, false, List, [], ◌∷◌, ◌++◌, Ok, Err, Option, length}
 use Rattle.std.proofs.lemmas.List.{length-append}
 use Rattle.std.specs.Global.{Vec}
@@ -30,24 +30,14 @@ use Rattle.syn_choices.specs.CallLoops.{one_more_call, refused, stuck}
 may_go_on : (start here p : Place) (count turns left : ℕ) → p ≡ start
     → count + turns ≡ remaining start - 1 → turns ≡ left + 1 → same_scope p here ≡ true
     → remaining here ≤ remaining p → MayGoOn start (count + 1) here
-may_go_on start here p count turns left e h i scope less = (
-  omega (arith, h, i),
-  subst (λ q. same_scope q here ≡ true) e scope,
-  omega (arith, less, ap remaining e),
-)
+may_go_on start here p count turns left e h i scope less = grind arith
 
 -- with no turn left, or out of the scope, or with more left, it may not
 may_not_go_on : (start here p : Place) (count turns : ℕ) → p ≡ start
     → count + turns ≡ remaining start - 1
     → (turns ≡ 0) ⊎ ((same_scope p here ≡ false) ⊎ (remaining p < remaining here))
     → MayGoOn start (count + 1) here → ⊥
-may_not_go_on start here p count turns e h (inl none) k = omega (arith, h, none, k.0)
-may_not_go_on start here p count turns e h (inr (inl other)) k =
-    let i : same_scope start here ≡ false = subst (λ q. same_scope q here ≡ false) e other in
-    let j = k.1 in
-    absurd (cc)
-may_not_go_on start here p count turns e h (inr (inr more)) k =
-    omega (arith, more, k.2, ap remaining e)
+may_not_go_on start here p count turns e h k i = grind arith
 
 -- what values state of which each call takes this
 abbrev Values : {T : Type 0} → Bool → (value : Taking T) → Lowers value → Takings T
@@ -81,13 +71,7 @@ pub turned-none : {F T : Type 0} (goes_on ends : Place → Type 0) (calls : Valu
     → p ≡ s.place → weight (erased_ahead p) ≤ n → n ≡ remaining p - 1 → vs ≡ []
     → Turned goes_on ends calls f s test alone vs f s n
 turned-none goes_on ends calls f s test alone p n vs e h k none =
-    subst (λ xs. Turned goes_on ends calls f s test alone xs f s n) (sym none) (record {
-      within = omega arith;
-      taken = λ value less each. turns-start test (Values alone value less) s n
-          (omega (arith, h, ap (λ q. weight (erased_ahead q)) e));
-      called = no_call;
-      count = omega (arith, k, ap remaining e);
-    })
+    grind (arith, turns-start, no_call)
 
 pub loop-ended : {F T : Type 0} {goes_on ends : Place → Type 0} {calls : ValueCall F T} {f g : F}
     {s t : State} {test : Option (Ahead → Bool)} {alone : Bool} {n : ℕ} (vs : Vec T)

@@ -1,5 +1,5 @@
 -- One of two values, found or missing.
-use Rattle.std.proofs.Common.{◌≡◌, ◌∙◌, sym, ap, refl, Bool, true, false, cond, Option, Some, Ok}
+use Rattle.std.proofs.Common.{arith, ◌≡◌, Bool, true, false, Option, Some, Ok}
 use Rattle.std.proofs.Common.{◌||◌, Err}
 use Rattle.std.specs.Prelude.{Result}
 use Rattle.either.specs.Either.{map_either}
@@ -21,9 +21,7 @@ use Rattle.syn_parse.specs.declared.fault.Fault.{Fault}
 same_takes : {R A : Type 0} (form : R → A) (take other : Taking A) (s t : State)
     (r : Result R Fault) → other (ahead s) ≡ take (ahead s) → TakesAs form take s r t
     → TakesAs form other s r t
-same_takes form take other s t (Ok v) e h = (e ∙ h.0, h.1)
-same_takes form take other s t (Err f) e h =
-    fails_on (take (ahead s)) (other (ahead s)) (λ m k. e ∙ k) f s s (stays_here s) h
+same_takes form take other s t r e h = grind (arith, fails_on, stays_here)
 
 module _ {T U A B : Type 0} (test : Ahead → Bool) (form : T → A) (shape : U → B)
     (there : Taking A) (other : Taking B) where
@@ -38,37 +36,28 @@ module _ {T U A B : Type 0} (test : Ahead → Bool) (form : T → A) (shape : U 
 
   is-left : (a : Ahead) → true ≡ test a → take_either test there other a ≡ left a
   unfolding take_either
-  is-left a e = ap (λ b. cond b (left a) (right a)) (sym e)
+  is-left a e = grind arith
 
   is-right : (a : Ahead) → false ≡ test a → take_either test there other a ≡ right a
   unfolding take_either
-  is-right a e = ap (λ b. cond b (left a) (right a)) (sym e)
+  is-right a e = grind arith
 
   left-found : (s t : State) (v : T) → true ≡ test (ahead s) → TakesAs form there s (Ok v) t
       → TakesAs one (take_either test there other) s (Ok (Left v)) t
-  left-found s t v e h =
-      same_takes one left (take_either test there other) s t (Ok (Left v)) (is-left (ahead s) e)
-      (then_takes form one there _ s t t v (Ok (Left v)) h (refl, stays_here t))
+  left-found s t v e h = grind (arith, same_takes, is-left, then_takes, stays_here)
 
   left-fails : (s t : State) (f : Fault) → true ≡ test (ahead s) → TakesAs form there s (Err f) t
       → TakesAs one (take_either test there other) s (Err f) t
-  left-fails s t f e h =
-      same_takes one left (take_either test there other) s t (Err f) (is-left (ahead s) e)
-      (first_fails form one there _ s t f h)
+  left-fails s t f e h = grind (arith, same_takes, is-left, first_fails)
 
   right-found : (s t : State) (v : U) → false ≡ test (ahead s) → TakesAs shape other s (Ok v) t
       → TakesAs one (take_either test there other) s (Ok (Right v)) t
-  right-found s t v e h =
-      same_takes one right (take_either test there other) s t (Ok (Right v))
-      (is-right (ahead s) e)
-      (then_takes shape one other _ s t t v (Ok (Right v)) h (refl, stays_here t))
+  right-found s t v e h = grind (arith, same_takes, is-right, then_takes, stays_here)
 
   right-fails : (s t : State) (f : Fault) → false ≡ test (ahead s)
       → TakesAs shape other s (Err f) t
       → TakesAs one (take_either test there other) s (Err f) t
-  right-fails s t f e h =
-      same_takes one right (take_either test there other) s t (Err f) (is-right (ahead s) e)
-      (first_fails shape one other _ s t f h)
+  right-fails s t f e h = grind (arith, same_takes, is-right, first_fails)
 
 -- by a peek
 module _ {T U : Type 0} where

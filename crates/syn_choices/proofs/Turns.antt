@@ -1,8 +1,8 @@
 -- Turns of a loop that stays in its scope.
-use Rattle.std.proofs.Common.{◌≡◌, ◌-◌, ◌<◌, ◌≤◌, ◌⊎◌, ℕ, ap, arith, inl, inr}
+use Rattle.std.proofs.Common.{◌≡◌, ◌-◌, ◌<◌, ◌≤◌, ◌⊎◌, ℕ, arith, inl, inr}
 use Rattle.std.proofs.Common.{Bool, true, false, List, Ok, Err, Option, Some}
 use Rattle.tok_buffer.specs.Order.{same_scope}
-use Rattle.tok_buffer.specs.Place.{Place, at, empty_place, frame}
+use Rattle.tok_buffer.specs.Place.{Place}
 use Rattle.tok_buffer.specs.Progress.{remaining}
 use Rattle.syn_parse.proofs.Failing.{stays_along}
 use Rattle.syn_parse.proofs.Premises.{given, given_on, under}
@@ -18,16 +18,12 @@ use Rattle.syn_parse.specs.declared.fault.Fault.{Fault}
 -- in one scope no more remains where no more is counted
 pub no_more : (p q : Place) → same_scope p q ≡ true → remaining q - 1 ≤ remaining p - 1
     → remaining q ≤ remaining p
-no_more empty_place empty_place e h = omega arith
-no_more empty_place (at m t d k ks) e h = absurd (cc)
-no_more (at n s c l ls) empty_place e h = omega arith
-no_more (at n s c (frame o p f) ls) (at m t d (frame q r g) ks) e h = omega (arith, h)
+no_more p q e h = grind arith
 
 -- a stream that stays is in its scope, and no more remains
 no_more_elsewhere : (s t : State) → Stays s t → (p : Place) → p ≡ s.place
     → (same_scope p t.place ≡ false) ⊎ (remaining p < remaining t.place) → ⊥
-no_more_elsewhere s t h p e (inl other) = let k = in_one_scope s.place t.place h.1 in cc
-no_more_elsewhere s t h p e (inr more) = omega (arith, more, h.2, ap remaining e)
+no_more_elsewhere s t h p e k = grind (arith, in_one_scope)
 
 -- a value that takes something leaves a turn for the next one, in the same scope
 pub turns_stuck : {T : Type 0} (test : Option (Ahead → Bool)) (takes : Takings T) (s t u : State)

@@ -1,7 +1,7 @@
+use Rattle.std.proofs.lemmas.Grind.{common_steps}
+use Rattle.std.proofs.Common.{arith}
 use Rattle.syn_choices.proofs.Attempts.{attempt_takes}
 use Rattle.syn_choices.proofs.ext.ParseBufferParseBufferExt.attempt_with.Goals as goal
 
 pub returns-clause-takes : goal.returns-clause-takes
-returns-clause-takes g c value each =
-    attempt_takes value _ each c.args.self.now c.run_attempt.result c.run_attempt.new.input
-    c.run_attempt.ensures
+returns-clause-takes g c value each = grind (arith, common_steps, attempt_takes)

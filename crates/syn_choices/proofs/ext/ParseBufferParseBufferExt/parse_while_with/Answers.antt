@@ -8,10 +8,7 @@ use Rattle.syn_choices.proofs.CallLoops.{turned-more, turned-none}
 use Rattle.syn_choices.proofs.ext.ParseBufferParseBufferExt.parse_while_with.Goals as goal
 
 pub loop-start-init : goal.loop-start-init
-loop-start-init g c =
-    turned-none _ _ _ c.args.parser c.args.self.now _ _ _ c.remaining-turns.result
-    c.new-values.result.items c.cursor-start.ensures c.remaining-turns.ensures.visible
-    c.remaining-turns.ensures.counts c.new-values.ensures.items
+loop-start-init g c = search (rules, turned-none)
 
 pub returns-in_err-next_value : goal.returns-in_err-next_value
 returns-in_err-next_value g c =
