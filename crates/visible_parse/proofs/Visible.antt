@@ -8,8 +8,6 @@ use Rattle.tok_pruned.specs.Pruned.{pruned}
 use Rattle.tok_pruned.proofs.Pruning.{erase_pruned, filled_pruned}
 use Rattle.syn_parse.proofs.Finished.{results_agree, words_agree}
 use Rattle.syn_parse.proofs.Premises.{given, premise}
-use Rattle.syn_parse.proofs.WholeTakes.{memory_keeps}
-use Rattle.syn_parse.specs.Parsers.{OnMemory}
 use Rattle.syn_parse.specs.Takes.{Agree, ErrorsAgree, MemoryOr, SaysAll, Taking, TakesAll, found}
 use Rattle.syn_parse.specs.Takings.{KeepsWhole, Takings, stated, untold}
 use Rattle.syn_parse.specs.TreesAhead.{Ahead, all_taken, only_trees, whole}
@@ -87,10 +85,6 @@ module _ {T : Type 0} where
   keeps_visible untold f r h = tt
   keeps_visible (stated alone form take w) f r h =
       takes_visible form take f r (given alone _ _ h (premise alone _ (filled_pruned f)))
-
-  pub fails_visibly : (takes : Takings T) (f : Forest) (r : Result T Fault) → OnMemory r
-      → KeepsVisible takes f r
-  fails_visibly takes f r h = keeps_visible takes f r (memory_keeps takes (pruned f) call_site r h)
 
   pub both_agree : (takes : Takings T) (f g : Forest) (x y : Result T Fault)
       → KeepsVisible takes f x → KeepsVisible takes g y → erase f ≡ erase g → AgreeAs takes x y
