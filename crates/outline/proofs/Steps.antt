@@ -4,15 +4,9 @@ use Rattle.tok_lexical.specs.declared.delimiter.Delimiter.{Delimiter}
 use Rattle.tok_core.specs.Forest.{Tree}
 use Rattle.tok_buffer.specs.Entry.{Entered, enter, enter_any}
 use Rattle.tok_buffer.specs.Place.{Place}
-use Rattle.tok_buffer.specs.Progress.{EntriesGoOn, ReadsGoOn, SkipsGoOn, StaysAlong, remaining}
-use Rattle.tok_buffer.specs.Reads.{read_ident, read_punct, skip}
+use Rattle.tok_buffer.specs.Progress.{EntriesGoOn, ReadsGoOn, StaysAlong, remaining}
+use Rattle.tok_buffer.specs.Reads.{read_ident, read_punct}
 use Rattle.outline.specs.Passing.{Passes, Stays}
-
--- a move to the same place
-pub stays_here : StaysAlong → (p : Place) → Stays p p
-stays_here law p =
-    let same : remaining p ≤ remaining p = omega arith in
-    (law.here p, same)
 
 -- a move, and a move past something
 pub passes_then : StaysAlong → (p q r : Place) → Stays p q → Passes q r → Passes p r
@@ -41,10 +35,6 @@ passes_on law p q r one two =
     let both : remaining r < remaining p = omega (arith, first, second) in
     (law.along p q r one.0 two.0, both)
 
--- a move past something after another move
-pub stays_then : StaysAlong → (p q r : Place) → Stays p q → Passes q r → Stays p r
-stays_then law p q r one two = passes_stays p r (passes_then law p q r one two)
-
 -- a name
 pub past_ident : ReadsGoOn → (p : Place) (ts : List Tree) (q : Place) →
     read_ident p ≡ Some (ts, q) → Passes p q
@@ -54,10 +44,6 @@ past_ident law p ts q e = (law.leaves.idents.stays p ts q e, law.leaves.idents.l
 pub past_punct : ReadsGoOn → (p : Place) (ts : List Tree) (q : Place) →
     read_punct p ≡ Some (ts, q) → Passes p q
 past_punct law p ts q e = (law.leaves.puncts.stays p ts q e, law.leaves.puncts.lowers p ts q e)
-
--- a token
-pub past_skip : SkipsGoOn → (p q : Place) → skip p ≡ Some q → Passes p q
-past_skip law p q e = (law.stays p q e, law.lowers p q e)
 
 -- a group
 pub past_group : EntriesGoOn → (d : Delimiter) (p : Place) (e : Entered) →
