@@ -1,17 +1,14 @@
 -- What integers mean, with a suffix and without one.
-use Rattle.std.proofs.Common.{◌∙◌, sym, ap, refl, ◌∷◌, subst}
-use Rattle.std.specs.Prelude.{encode_utf8_all}
-use Rattle.syn_parse.specs.Positions.{scope_trees}
-use Rattle.syn_parse.specs.Takes.{IsMissing, and_then}
-use Rattle.syn_parse.specs.TreesAhead.{ahead}
-use Rattle.std.proofs.Common.{◌≡◌, ◌<◌, ◌^◌, ℕ, List, [], Some}
-use Rattle.std.proofs.Common.{true, false}
-use Rattle.std.proofs.Common.{Err, Ok, Option, arith, eqb-true}
-use Rattle.std.specs.Prelude.{Result}
+use Rattle.std.proofs.Common.{◌∙◌, sym, ap, refl, ◌∷◌, subst, ◌≡◌, ◌<◌, ◌^◌, ℕ, List, [], Some}
+use Rattle.std.proofs.Common.{true, false, Err, Ok, Option, arith, eqb-true}
+use Rattle.std.specs.Prelude.{encode_utf8_all, Result, ◌==◌, codes, length}
 use Rattle.std.proofs.lemmas.Bool.{false≢true, lt-ltb, ltb-true}
 use Rattle.std.proofs.lemmas.Str.{encodes-chars}
-use Rattle.std.specs.Prelude.{◌==◌, codes, length}
 use Rattle.std.specs.Str.{IsUtf8, chars}
+use Rattle.syn_parse.specs.Positions.{scope_trees}
+use Rattle.syn_parse.specs.Takes.{IsMissing, and_then, MemoryOr, Outcome, SaysFound, Taking}
+use Rattle.syn_parse.specs.Takes.{TakesAs, ◌>>=◌, found, refuses_at}
+use Rattle.syn_parse.specs.TreesAhead.{ahead, Ahead}
 use Rattle.tok_leaves.specs.declared.span.Span.{Span}
 use Rattle.tok_core.specs.Forest.{Forest}
 use Rattle.tok_buffer.specs.Messages.{message_at}
@@ -20,9 +17,6 @@ use Rattle.syn_parse.specs.Faults.{Refuses}
 use Rattle.tok_values.specs.Values.{HasValue}
 use Rattle.tok_values.specs.declared.integers.IntegerFault.TheVariants.{TooLarge}
 use Rattle.syn_parse.specs.State.{State}
-use Rattle.syn_parse.specs.Takes.{MemoryOr, Outcome, SaysFound, Taking, TakesAs, ◌>>=◌}
-use Rattle.syn_parse.specs.Takes.{found, refuses_at}
-use Rattle.syn_parse.specs.TreesAhead.{Ahead}
 use Rattle.syn_parse.specs.declared.fault.Fault.{Fault}
 use Rattle.example_config.specs.Forms.{Form, number, value_form}
 use Rattle.example_config.specs.Reading.{Means, SaysOnce, in_integer, in_number}

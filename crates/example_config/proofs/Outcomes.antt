@@ -1,6 +1,5 @@
 -- What the reader returns is what the grammar says.
-use Rattle.std.proofs.Common.{inl, refl, subst}
-use Rattle.std.proofs.Common.{arith, ◌≡◌, List, true, ℕ}
+use Rattle.std.proofs.Common.{inl, refl, subst, arith, ◌≡◌, List, true, ℕ}
 use Rattle.std.specs.Prelude.{Result}
 use Rattle.tok_lexical.specs.declared.rule.Mode.TheVariants.{Plain}
 use Rattle.tok_leaves.specs.declared.span.Span.{Span}

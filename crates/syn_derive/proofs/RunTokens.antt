@@ -1,6 +1,6 @@
 -- The trees that a run goes past are the tokens of its grammar, and these tokens are gone past.
 use Rattle.std.proofs.Common.{◌≡◌, ◌∙◌, sym, ap, refl, arith, ◌<◌, ◌≤◌, ◌+◌, ◌-◌, ◌==◌, ℕ}
-use Rattle.std.proofs.Common.{Bool, true, false, ◌&&◌, ◌||◌, cond, Option, Some, None, List}
+use Rattle.std.proofs.Common.{Bool, true, false, ◌&&◌, ◌||◌, cond, Some, None, List}
 use Rattle.std.proofs.Common.{[], ◌∷◌, eqb-true, suc, zero}
 use Rattle.std.proofs.lemmas.Bool.{false≢true}
 use Rattle.std.specs.Prelude.{codes, if◌then◌else◌, option_map, is_some}
@@ -40,9 +40,6 @@ abbrev at : Until → ℕ → Last → Passed
 at u depth last = record { until = u; depth = depth; last = last }
 
 -- one step
-abbrev in_step : Passed → Forest → Next → Bool → Option Passed
-in_step p f n half = if half then Some (record p { last = Operator }) else past p f n
-
 steps : (p : Passed) (f : Forest) (n : Next) → is_half p.last ≡ false
     → next_of (within p) p.last f ≡ n → goes_past p f ≡ past p f n
 steps p f n h e = grind arith

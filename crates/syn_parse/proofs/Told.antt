@@ -44,7 +44,8 @@ use Rattle.syn_parse.specs.Lookahead.{look_missing, missing_names, names_message
 use Rattle.syn_parse.specs.Takes.{Outcome, SaysAt, Takes, TakesAs, missing_next, or_end, take_by}
 use Rattle.syn_parse.specs.Tokens.{ident_in, lifetime_in, literal_in, punct_position, sign_missing}
 use Rattle.syn_parse.specs.Tokens.{sign_position, TokenKind, any_ident, any_lifetime, ident}
-use Rattle.syn_parse.specs.Tokens.{keyword, lifetime, literal, own, punct, punct_in, punctuation, take_token}
+use Rattle.syn_parse.specs.Tokens.{keyword, lifetime, literal, own, punct, punct_in, punctuation}
+use Rattle.syn_parse.specs.Tokens.{take_token}
 use Rattle.syn_parse.proofs.Failing.{says_memory}
 use Rattle.syn_parse.proofs.Positions.{InScope, scope_kept, start_told, whole_told}
 use Rattle.syn_parse.proofs.Progress.{at_once}

@@ -128,7 +128,7 @@ body =
 -- what an item has after its word
 ruleset parts = (identifier_exactly, params, clause)
 
--- and what a struct has
+-- the parts of a struct
 ruleset struct_parts = (
   struct_word,
   before_clause,
