@@ -14,7 +14,6 @@ use Rattle.tok_lexical.specs.Words.{IsIdentifier, IsName, is_missing_raw}
 use Rattle.tok_lexical.specs.declared.lex_error_kind.LexErrorKind.{LexErrorKind}
 use Rattle.tok_lexical.specs.declared.rule.Mode.TheVariants.{Plain}
 use Rattle.tok_lexical.specs.declared.rule.Rule.{Rule}
-use Rattle.tok_lexical.specs.declared.rule.Rule.TheVariants as rule
 use Rattle.tok_lexical.proofs.Digits.{head_passes}
 use Rattle.tok_lexical.proofs.Fits.{fits_in, fits_longest}
 use Rattle.tok_leaves.specs.Leaves.{Leaf, ident, literal, punct}

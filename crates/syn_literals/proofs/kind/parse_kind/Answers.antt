@@ -1,5 +1,5 @@
 use Rattle.std.proofs.lemmas.Grind.{common_steps}
-use Rattle.std.proofs.Common.{arith, ◌≡◌, ◌∙◌, sym, ap, is_some, true, false}
+use Rattle.std.proofs.Common.{arith, ◌≡◌, ◌∙◌, sym, ap, is_some, true}
 use Rattle.syn_parse.specs.Reads.{does}
 use Rattle.syn_parse.proofs.Reading.{reads_refused}
 use Rattle.syn_literals.specs.Kinds.{read_literal_of}
