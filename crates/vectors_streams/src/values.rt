@@ -28,7 +28,6 @@ pub fn parsed(alloc: Global, parser: &str, text: &str) -> Option<Result<String>>
         "NoPunctuation" => read::<token::Punctuation<7, 2>>.parse_str(alloc, text),
         "AnyIdent" => any_ident.parse_str(alloc, text),
         "TwoSpans" => two_spans.parse_str(alloc, text),
-        "AfterAt" => text_after_at.parse_str(alloc, text),
         "AfterName" => after_name.parse_str(alloc, text),
         "TextLiteral" => text_literal(alloc, text),
         "TextLiteralAfterTree" => literal_after_tree.parse_text(alloc, SOURCE, text),
@@ -73,23 +72,6 @@ fn source_literal(alloc: Global, edition: Edition, text: &str) -> Result<String>
 fn two_spans(input: ParseStream<'_, '_>) -> Result<String> {
     let _: [Span; 2] = parsing::punct(input, ",")?;
     Ok(String::new(input.allocator()))
-}
-
-// Parses the trees after the next `@`.
-fn after_at(input: ParseStream<'_, '_>) -> Result<TokenStream> {
-    for _ in 0..100 {
-        if let TokenTree::Punct(punct) = input.parse()? {
-            if punct.as_char() == '@' {
-                return input.parse();
-            }
-        }
-    }
-    Err(input.error("expected `@`"))
-}
-
-fn text_after_at(input: ParseStream<'_, '_>) -> Result<String> {
-    let rest = after_at(input)?;
-    Ok(rest.to_string(input.allocator())?)
 }
 
 // Returns the text of the stream after one identifier.

@@ -1,6 +1,12 @@
 //! The parsers of `example_callers::streams` and `example_callers::lists`.
+ghost use Rattle.std.specs.Prelude.{IfOk};
+ghost use Rattle.tok_buffer.specs.Cursors.{place_of};
+ghost use Rattle.tok_buffer.specs.Progress.{StaysIn};
+ghost use Rattle.syn_parse.specs.Steps.{step_state};
+
 use crate::said::all_said;
 use example_callers::lists::{names, parse_items};
+use example_callers::loops::past_sign;
 use example_callers::streams::{Kind, count_names, next_kind, next_tree, optional_field};
 use std::alloc::Global;
 use syn_parse::{ParseStream, Parser, Result};
@@ -11,6 +17,7 @@ use tok_core::TokenStream;
 enum Read {
     NextKind,
     TreeAndField,
+    AfterSign,
     CountedNames,
     ListedNames,
     ListedItems,
@@ -21,6 +28,7 @@ impl Sample for Read {
         match self {
             Read::NextKind => kind_of_next.parse_str(alloc, text),
             Read::TreeAndField => tree_and_field.parse_str(alloc, text),
+            Read::AfterSign => after_sign.parse_str(alloc, text),
             Read::CountedNames => counted_names.parse_str(alloc, text),
             Read::ListedNames => listed_names.parse_str(alloc, text),
             Read::ListedItems => listed_items.parse_str(alloc, text),
@@ -50,6 +58,23 @@ fn tree_and_field(input: ParseStream<'_, '_>) -> Result<String> {
     Ok(format!(in input.allocator(); "{is_first} {is_second}")?)
 }
 
+// Steps past the next `@`, and parses the trees after it.
+fn after_sign(input: ParseStream<'_, '_>) -> Result<String> {
+    let alloc = input.allocator();
+    input.step(
+        |from|
+            ensures { IfOk result (λ r. StaysIn (step_state from.entry).place (place_of r.1)) }
+        {
+            match past_sign(alloc, from.cursor())? {
+                Some(rest) => Ok(((), rest)),
+                None => Err(from.error("no `@` was found after this point")),
+            }
+        },
+    )?;
+    let rest: TokenStream = input.parse()?;
+    Ok(rest.to_string(alloc)?)
+}
+
 #[test]
 fn chooses_steps_and_tries(rt: HostRuntime) {
     all_said(
@@ -62,6 +87,18 @@ fn chooses_steps_and_tries(rt: HostRuntime) {
         ],
     );
     all_said(&rt, &Read::TreeAndField, &[("(a) b: C d e", "true false")]);
+    all_said(
+        &rt,
+        &Read::AfterSign,
+        &[
+            ("a @ b c", "b c"),
+            ("a b", "0..1 no `@` was found after this point"),
+            (
+                "",
+                "call unexpected end of input, no `@` was found after this point",
+            ),
+        ],
+    );
 }
 
 fn counted_names(input: ParseStream<'_, '_>) -> Result<String> {
