@@ -26,13 +26,15 @@ impl<T, P> Punctuated<T, P> {
 }
 
 impl<'a, T, P> IntoIterator for &'a mut Punctuated<T, P> {
-    ghost use Rattle.syn_punctuated.specs.Lent.{lent_values};
+    ghost use Rattle.syn_punctuated.specs.Lent.{lent_by_values, lent_values};
+    ghost use Rattle.syn_punctuated.specs.Paired.{paired};
 
     type Item = &'a mut T;
 
     type IntoIter = IterMut<'a, T, P>;
 
-    ghost into_iter_gives = { λ list r. lent_values r ≡ values_of list.now };
+    ghost into_iter_gives = { λ list r. (lent_values r ≡ values_of list.now)
+        × (lent_by_values r ≡ paired (values_of list.now) (separators_of list.now)) };
 
     fn into_iter(self) -> IterMut<'a, T, P> {
         self.iter_mut()
