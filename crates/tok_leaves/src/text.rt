@@ -17,18 +17,25 @@ use std::marker::Model;
 use std::str::from_utf8_unchecked;
 use std::sync::Arc;
 
-// The bytes of a text of up to 47, and how many it has. With the count of the texts that share them,
-// they take 56 bytes.
+// The most bytes of a text that is stored in place. With their number and the node's kind, so many
+// take 16 bytes.
+const MOST_SHORT: usize = 14;
+
+// The most bytes of a text in a block. With their number and that of the texts that share them, so
+// many take 56 bytes.
+const MOST_MEDIUM: usize = 47;
+
+// The bytes of a text on the heap that no `String` holds, and how many it has.
 #[derive(Drop)]
 struct Block {
     len: u8,
-    bytes: [u8; 47],
+    bytes: [u8; MOST_MEDIUM],
 }
 
-// A text of up to 14 bytes is stored in place, a longer one on the heap, where its clones share it.
+// A short text is stored in place, a longer one on the heap, where its clones share it.
 #[derive(Drop)]
 enum Node {
-    Short(u8, [u8; 14]),
+    Short(u8, [u8; MOST_SHORT]),
     Medium(Arc<Block>),
     Long(Arc<String>),
 }
@@ -69,10 +76,10 @@ impl Text {
     pub fn from_str(alloc: Global, text: &str) -> Result<Text, AllocError>
         ensures { IfOk result (λ t. t ≡ text.now) }
     {
-        if text.len() <= 14 {
+        if text.len() <= MOST_SHORT {
             return Ok(Text::short(alloc, text));
         }
-        if text.len() <= 47 {
+        if text.len() <= MOST_MEDIUM {
             return Text::medium(alloc, text);
         }
         Text::long(alloc, String::from_str(alloc, text)?)
@@ -93,15 +100,15 @@ impl Text {
         requires { (rest : List ℕ) × (chars text.now ≡ chars piece.now ++ rest) }
         ensures { IfOk result (λ t. t ≡ piece.now) }
     {
-        match text.as_bytes().split_first_chunk::<14>() {
-            Some((bytes, _)) if piece.len() <= 14 => Ok(Text::front(alloc, piece, bytes)),
+        match text.as_bytes().split_first_chunk::<MOST_SHORT>() {
+            Some((bytes, _)) if piece.len() <= MOST_SHORT => Ok(Text::front(alloc, piece, bytes)),
             _ => Text::from_str(alloc, piece),
         }
     }
 
-    // Stores a piece with what follows it, up to 14 bytes.
+    // Stores a piece with what follows it, as many bytes as fit.
     #[inline(always)]
-    fn front(alloc: Global, piece: &str, bytes: &[u8; 14]) -> Text
+    fn front(alloc: Global, piece: &str, bytes: &[u8; MOST_SHORT]) -> Text
         requires short { length piece.now ≤ 14 }
         requires front { take (length piece.now) bytes.now ≡ piece.now }
         ensures { result ≡ piece.now }
@@ -119,10 +126,10 @@ impl Text {
     pub fn from_string(alloc: Global, text: String) -> Result<Text, AllocError>
         ensures { IfOk result (λ t. t ≡ string_bytes text) }
     {
-        if text.len() <= 14 {
+        if text.len() <= MOST_SHORT {
             return Ok(Text::short(alloc, text.as_str()));
         }
-        if text.len() <= 47 {
+        if text.len() <= MOST_MEDIUM {
             return Text::medium(alloc, text.as_str());
         }
         Text::long(alloc, text)
@@ -132,7 +139,7 @@ impl Text {
         requires { length text.now ≤ 14 }
         ensures { result ≡ text.now }
     {
-        let mut bytes = [0u8; 14];
+        let mut bytes = [0u8; MOST_SHORT];
         let len = text.len();
         bytes[..len].copy_from_slice(text.as_bytes());
         Text {
@@ -148,7 +155,7 @@ impl Text {
         requires short { length text.now ≤ 47 }
         ensures { IfOk result (λ t. t ≡ text.now) }
     {
-        let mut bytes = [0u8; 47];
+        let mut bytes = [0u8; MOST_MEDIUM];
         let len = text.len();
         bytes[..len].copy_from_slice(text.as_bytes());
         let block = Block {
