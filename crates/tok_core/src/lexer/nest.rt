@@ -38,6 +38,18 @@ pub struct Nest<B> {
     pub built: B,
 }
 
+// The part of a text that a rule recognizes.
+#[derive(Clone, Copy)]
+struct Piece<'a> {
+    // The byte of the source at which the part begins, and the one at which it ends.
+    at: usize,
+    end: usize,
+    // The part, what follows it, and both.
+    text: &'a str,
+    after: &'a str,
+    whole: &'a str,
+}
+
 fn spacing(is_joint: bool) -> Spacing
     ensures { result ≡ (if is_joint then Spacing.Joint else Spacing.Alone) }
 {
@@ -146,30 +158,29 @@ impl<B: Build + Drop> Nest<B> {
     }
 
     /// Appends decimal digits and a dot, either as a float or as an integer and a punct.
-    ///
-    /// `whole` consists of `piece`, which contains the digits and the dot, and of `after`.
     #[inline(never)]
-    fn pointed(
-        &mut self,
-        at: usize,
-        end: usize,
-        piece: &str,
-        after: &str,
-        whole: &str,
-    ) -> Result<(), AllocError>
-        requires front { chars whole.now ≡ chars piece.now ++ chars after.now }
-        requires some { at < end }
-        requires ends { end ≡ at + bytes (chars piece.now) }
+    fn pointed(&mut self, piece: Piece<'_>) -> Result<(), AllocError>
+        requires front { chars piece.whole.now ≡ chars piece.text.now ++ chars piece.after.now }
+        requires some { piece.at < piece.end }
+        requires ends { piece.end ≡ piece.at + bytes (chars piece.text.now) }
         ensures { OnOk result
-            (Grows at (state B.levels self.old) (state B.levels self.new)
-            (pointed_items self.old.source at (chars piece.now) (chars after.now))) }
+            (Grows piece.entry.at (state B.levels self.old) (state B.levels self.new)
+            (pointed_items self.old.source piece.entry.at (chars piece.entry.text.now)
+            (chars piece.entry.after.now))) }
     {
+        let Piece {
+            at,
+            end,
+            text,
+            after,
+            whole,
+        } = piece;
         let is_float = takes_point(after);
         if is_float {
-            self.literal(at, end, piece, whole)?;
+            self.literal(at, end, text, whole)?;
         } else {
             let dot = end - 1;
-            let digits = up_to(piece, b'.');
+            let digits = up_to(text, b'.');
             self.literal(at, dot, digits, whole)?;
             self.punct(dot, '.', makes_joint(after))?;
         }
@@ -317,80 +328,91 @@ impl<B: Build + Drop> Nest<B> {
         ensures refused { IfErr result
             (λ halt. OnHalted halt (HaltsAt self.old.«open».items mode at (chars text.now))) }
     {
-        let piece = front_of(text, after);
-        let end = at + rule.width(piece);
-        match self.take_in(rule, mode, at, end, piece, after, text, returns) {
+        let front = front_of(text, after);
+        let end = at + rule.width(front);
+        let piece = Piece {
+            at,
+            end,
+            text: front,
+            after,
+            whole: text,
+        };
+        match self.take_in(rule, mode, piece, returns) {
             Ok(()) => Ok(end),
             Err(halt) => Err(halt),
         }
     }
 
-    /// Appends `piece`, which `rule` recognizes from byte `at` to byte `end`.
-    ///
-    /// `after` is the text after `piece`, and `whole` consists of `piece` and `after`.
+    /// Appends `piece`, which `rule` recognizes.
     ///
     /// # Requires
     ///
-    /// If `piece` contains a carriage return, `returns` must be `true`.
+    /// If the text of `piece` contains a carriage return, `returns` must be `true`.
     // Inlined, so that nothing is left of it where the rule is known but what the rule asks for.
     #[inline(always)]
     fn take_in(
         &mut self,
         rule: Rule,
         mode: Mode,
-        at: usize,
-        end: usize,
-        piece: &str,
-        after: &str,
-        whole: &str,
+        piece: Piece<'_>,
         returns: bool,
     ) -> Result<(), Halt>
-        requires front { chars whole.now ≡ chars piece.now ++ chars after.now }
-        requires returns { has_return (chars piece.now) ≡ true → returns ≡ true }
-        requires spelled { Spells rule (chars piece.now) }
-        requires ends { end ≡ at + width rule (chars piece.now) }
-        requires fits { at + 1 < 2 ^ 64 }
-        requires reached { Reached self.old.«open».items at }
+        requires front { chars piece.whole.now ≡ chars piece.text.now ++ chars piece.after.now }
+        requires returns { has_return (chars piece.text.now) ≡ true → returns ≡ true }
+        requires spelled { Spells rule (chars piece.text.now) }
+        requires ends { piece.end ≡ piece.at + width rule (chars piece.text.now) }
+        requires fits { piece.at + 1 < 2 ^ 64 }
+        requires reached { Reached self.old.«open».items piece.at }
         requires paired { IsPaired (state B.levels self.old) }
         ensures meant { OnOk result
-            (error_kind rule mode at (chars piece.now) (chars after.now) ≡ None) }
+            (error_kind rule mode piece.entry.at (chars piece.entry.text.now)
+            (chars piece.entry.after.now) ≡ None) }
         ensures ok { OnOk result
-            (Grows at (state B.levels self.old) (state B.levels self.new)
-            (items self.old.source rule mode at (chars piece.now) (chars after.now))) }
+            (Grows piece.entry.at (state B.levels self.old) (state B.levels self.new)
+            (items self.old.source rule mode piece.entry.at (chars piece.entry.text.now)
+            (chars piece.entry.after.now))) }
         ensures refused { IfErr result
             (λ halt. OnHalted halt
-            (Halts self.old.«open».items rule mode at (chars piece.now) (chars after.now))) }
+            (Halts self.old.«open».items rule mode piece.entry.at (chars piece.entry.text.now)
+            (chars piece.entry.after.now))) }
     {
+        let Piece {
+            at,
+            end,
+            text,
+            after,
+            whole,
+        } = piece;
         // Before the search for an error, which no mark of a group needs.
         match rule {
             Rule::Opening(delimiter) => return self.open(delimiter, at),
             Rule::Closing(delimiter) => return self.close(delimiter, at, end),
             _ => {}
         }
-        if let Some(kind) = error_kind(rule, mode, at, piece, after, returns) {
+        if let Some(kind) = error_kind(rule, mode, at, text, after, returns) {
             return Err(Halt::Refused(kind));
         }
         match rule {
             Rule::LineComment => {
-                if is_line_doc(piece) {
+                if is_line_doc(text) {
                     return self.doc(
                         at,
                         end,
-                        is_inner_doc(piece),
-                        line_doc_contents(piece, returns),
+                        is_inner_doc(text),
+                        line_doc_contents(text, returns),
                     );
                 }
             }
             Rule::BlockComment => {
-                if is_block_doc(piece) {
-                    return self.doc(at, end, is_inner_doc(piece), block_doc_text(piece));
+                if is_block_doc(text) {
+                    return self.doc(at, end, is_inner_doc(text), block_doc_text(text));
                 }
             }
-            Rule::PointedDecimal => self.pointed(at, end, piece, after, whole)?,
-            Rule::Lifetime | Rule::PlainLifetime => self.lifetime(at, end, past_first(piece))?,
+            Rule::PointedDecimal => self.pointed(piece)?,
+            Rule::Lifetime | Rule::PlainLifetime => self.lifetime(at, end, past_first(text))?,
             Rule::Apostrophe => self.punct(at, '\'', makes_joint_apostrophe(after))?,
-            Rule::Punct => self.punct(at, first_of(piece), is_joint(mode, after))?,
-            Rule::RawIdentifier | Rule::Identifier => self.ident(at, end, piece, whole)?,
+            Rule::Punct => self.punct(at, first_of(text), is_joint(mode, after))?,
+            Rule::RawIdentifier | Rule::Identifier => self.ident(at, end, text, whole)?,
             Rule::QuotedString(_)
             | Rule::ByteChar
             | Rule::RawString(_)
@@ -398,7 +420,7 @@ impl<B: Build + Drop> Nest<B> {
             | Rule::PlainChar
             | Rule::Based(_)
             | Rule::Float
-            | Rule::Decimal => self.literal(at, end, piece, whole)?,
+            | Rule::Decimal => self.literal(at, end, text, whole)?,
             _ => {}
         }
         Ok(())

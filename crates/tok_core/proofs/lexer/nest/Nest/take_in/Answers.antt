@@ -6,22 +6,22 @@ use Rattle.tok_core.proofs.lexer.nest.Nest.take_in.Goals as goal
 
 pub returns-in-Some-clause-refused : goal.returns-in-Some-clause-refused
 returns-in-Some-clause-refused g c = halts_meaning (state g.B.Build.levels c.args.self.now)
-    c.args.rule c.args.mode c.args.at _ _ c.in-Some.kind c.error_kind.result
+    c.args.rule c.args.mode c.args.piece.at _ _ c.in-Some.kind c.error_kind.result
     (c.error_kind.ensures c.requires.returns) c.in-Some.is
 
 pub returns-in-Opening-clause-refused : goal.returns-in-Opening-clause-refused
 returns-in-Opening-clause-refused g c = halts_deep (state g.B.Build.levels c.args.self.now)
-    c.args.rule c.args.mode c.args.at _ _ _ (rw c.in-Opening.is refl) (rw c.in-Opening.is refl)
-    c.«open».ensures.refused
+    c.args.rule c.args.mode c.args.piece.at _ _ _ (rw c.in-Opening.is refl)
+    (rw c.in-Opening.is refl) c.«open».ensures.refused
 
 pub returns-in-Closing-clause-refused : goal.returns-in-Closing-clause-refused
 returns-in-Closing-clause-refused g c = halts_unfit (state g.B.Build.levels c.args.self.now)
-    c.args.rule c.args.mode c.args.at _ _ c.in-Closing.delimiter _ c.in-Closing.is
+    c.args.rule c.args.mode c.args.piece.at _ _ c.in-Closing.delimiter _ c.in-Closing.is
     c.close.ensures.refused
 
 pub returns-then-is_line_doc-clause-refused : goal.returns-then-is_line_doc-clause-refused
 returns-then-is_line_doc-clause-refused g c = halts_deep (state g.B.Build.levels c.args.self.now)
-    c.args.rule c.args.mode c.args.at _ _ _
+    c.args.rule c.args.mode c.args.piece.at _ _ _
     (sym (c.error_kind.ensures c.requires.returns) ∙ c.in_default-error_kind.is)
     (rw c.in-LineComment.is (sym c.if-is_line_doc.ensures)) c.doc.ensures.refused
 
@@ -31,7 +31,7 @@ block_doc_text-requires g c = block_end _ (rw c.in-BlockComment.is at c.requires
 
 pub returns-then-is_block_doc-clause-refused : goal.returns-then-is_block_doc-clause-refused
 returns-then-is_block_doc-clause-refused g c =
-    halts_deep (state g.B.Build.levels c.args.self.now) c.args.rule c.args.mode c.args.at _ _ _
-    (sym (c.error_kind.ensures c.requires.returns) ∙ c.in_default-error_kind.is)
+    halts_deep (state g.B.Build.levels c.args.self.now) c.args.rule c.args.mode c.args.piece.at
+    _ _ _ (sym (c.error_kind.ensures c.requires.returns) ∙ c.in_default-error_kind.is)
     (rw c.in-BlockComment.is (sym c.if-is_block_doc.ensures))
     c.doc-then-is_block_doc.ensures.refused
