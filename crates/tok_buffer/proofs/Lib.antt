@@ -15,7 +15,6 @@ mod Layouts
 mod Lefts
 mod Levels
 mod Measured
-mod NextChars
 pub mod Onwards
 mod Peeks
 mod PunctRuns

@@ -66,10 +66,6 @@ module _ (text : List ℕ) (start : Place) (i : ℕ) (spans : List Span) (left :
     reads = rw (so.reads, e, one_more c cs here q t h) (after-after so.done t (read_all cs q));
   }
 
--- the place of a spot, if there is one
-abbrev placed : Option Spot → Place
-placed spot = elim spot [ None ↦ empty_place | Some s ↦ spot_place s ]
-
 pub at_spot : (cursor : Cursor) (spot : Spot) → cursor.spot ≡ Some spot → place_of cursor
     ≡ spot_place spot
 at_spot cursor spot e = rw e

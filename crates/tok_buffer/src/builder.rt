@@ -1,5 +1,5 @@
 //! The builder that collects the entries of a buffer from a text, or from a caller's entries.
-ghost use Rattle.std.specs.Prelude.{◌≡◌, ◌++◌, ◌∷◌, [], IfOk, ◌≤◌, ◌*◌, ◌^◌};
+ghost use Rattle.std.specs.Prelude.{◌≡◌, ◌++◌, ◌∷◌, [], IfOk};
 ghost use Rattle.tok_core.specs.Building.{nothing};
 ghost use Rattle.tok_buffer.specs.Private.Layout.{layout, laid};
 ghost use Rattle.tok_buffer.specs.declared.entry.Entry.TheVariants.{End};
@@ -7,8 +7,9 @@ ghost use Rattle.tok_buffer.specs.declared.entry.Entry.TheVariants.{End};
 use crate::entry::{Entry, Opening};
 use std::alloc::{AllocError, Global};
 use std::marker::Model;
+use tok_core::room::fitted;
 use tok_core::{Build, Delimiter, Ident, Literal, Punct, Span};
-use tok_entries::TakeBack;
+use tok_entries::{TakeBack, first_room};
 
 /// A builder that collects the entries of a buffer in order.
 ///
@@ -43,26 +44,6 @@ impl Model for EntryBuilder {
         × (b.«open».items ≡ places 0 (levels_in b.entries.items).outer) };
 }
 
-// A text of fewer bytes gets no room before its first entry, and one of more no more than these.
-const FEWEST_BYTES: usize = 1 << 8;
-
-const MOST_BYTES: usize = 1 << 18;
-
-// Few texts have more entries than one in so many bytes: those of inner groups count, too.
-const BYTES_AN_ENTRY: usize = 4;
-
-// Returns for how many entries a builder has room at first.
-fn first_room(bytes: usize) -> usize
-    ensures share { 4 * result ≤ bytes }
-    ensures most { result ≤ 2 ^ 16 }
-{
-    if bytes < FEWEST_BYTES {
-        0
-    } else {
-        bytes.min(MOST_BYTES) / BYTES_AN_ENTRY
-    }
-}
-
 impl EntryBuilder {
     /// Creates an empty builder, with a capacity that is estimated for a text of `bytes` bytes.
     ///
@@ -93,20 +74,15 @@ impl EntryBuilder {
 
     /// Returns the collected entries, with an entry for the end of the buffer after them.
     ///
-    /// If the vector has room for 64 or more entries, and less than half of the room is used, the
-    /// entries move to a smaller vector. This vector has exactly enough room. Returns an error if
-    /// an allocation fails.
+    /// The vector is at most twice as large as the entries need, or has room for four. Returns an
+    /// error if an allocation fails.
     pub fn into_entries(self) -> Result<Vec<Entry>, AllocError>
         ensures { IfOk result
             (λ v. v.items ≡ (laid self.outer ++ layout self.inner) ++ End 0 ∷ []) }
     {
         let mut entries = self.entries;
         entries.push(Entry::End(0))?;
-        let room = entries.capacity();
-        if room >= FEWEST_BYTES / BYTES_AN_ENTRY && room / 2 > entries.len() {
-            entries = entries.split_off(0)?;
-        }
-        Ok(entries)
+        fitted(entries)
     }
 }
 

@@ -1,5 +1,5 @@
 -- What happens to the levels in one list of trees when a leaf, an opening or a closing comes.
-use Rattle.std.proofs.Common.{◌≡◌, ap, refl, ℕ, ◌<◌, ◌≤◌, List, [], ◌∷◌, ◌++◌, length, take, drop}
+use Rattle.std.proofs.Common.{◌≡◌, ap, refl, ℕ, ◌≤◌, List, [], ◌∷◌, ◌++◌, length, take, drop}
 use Rattle.std.proofs.Common.{arith, true, length-append}
 use Rattle.std.proofs.lemmas.Bool.{le-leb, leb-true, and_parts}
 use Rattle.std.specs.Prelude.{nat_le, reverse}
@@ -53,12 +53,6 @@ leaf_one starts trees new t l old h n v e =
 last_first : (starts new : List ℕ) (s : ℕ) → new ≡ starts ++ s ∷ [] → reverse new
     ≡ s ∷ reverse starts
 last_first starts new s e = rw e (reverse-append starts (s ∷ []))
-
--- some level is open
-pub some_open : (starts : List ℕ) (trees : List TokenTree) →
-    0 < length (levels_in (reverse starts) trees).outer → 0 < length starts
-some_open [] trees h = h
-some_open (s ∷ starts) trees h = omega arith
 
 -- no level is open
 pub none_open : (starts : List ℕ) (trees : List TokenTree) → (levels_in starts trees).outer ≡ [] →

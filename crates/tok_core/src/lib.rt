@@ -10,6 +10,7 @@ mod invisible;
 pub mod laws;
 mod lexer;
 mod print;
+pub mod room;
 mod stream;
 mod to_tokens;
 mod tt;

@@ -1,5 +1,5 @@
 -- A group closes around what is left of it, or its opening is taken back.
-use Rattle.std.proofs.Common.{◌≡◌, ◌<◌, List, [], ◌∷◌, ◌++◌, true, length, refl, ap, sym, arith}
+use Rattle.std.proofs.Common.{◌≡◌, List, [], ◌∷◌, ◌++◌, true, length, refl, ap, sym, arith}
 use Rattle.std.proofs.Common.{length-append}
 use Rattle.tok_lexical.specs.declared.delimiter.Delimiter.{Delimiter}
 use Rattle.tok_lexical.specs.declared.delimiter.Delimiter.TheVariants.{Parenthesis, Brace, Bracket, None}
@@ -86,11 +86,3 @@ pub closed_filled : (old new around : Levels) (d : Delimiter) (f : Forest) (s : 
     → new ≡ add_forest (pruned (tree (group d f s) no_trees)) around
 closed_filled old new around d f s h c e =
     closed old new around d f s (kept_filled d f s (rw e at h)) c e
-
--- a level is open
-pub some_open : (s around : Levels) (f : Forest) → s ≡ add_forest f (opened around)
-    → 0 < length s.outer
-some_open s around f e =
-    let n : length s.outer ≡ length (around.outer ++ around.inner ∷ []) = ap (λ x. length x.outer)
-    e in
-    omega (arith, n, length-append around.outer (around.inner ∷ []))

@@ -453,11 +453,3 @@ module _ (es fs : List Entry) (bs ps : List ℕ) (n k begin to : ℕ) (s : Level
       closed in
       subst (λ w. Closes d p w (levels_in (set fs n first) bs)) same
       (h.before, h.is ∙ ap (λ w. w.outer ++ h.before ∷ []) (sym e), ap (λ w. w.inner) e)
-
--- entries and texts of one level alone
-pub one_level : (es : List Entry) (bs ps : List ℕ) (s : Levels) → IsLaid es bs ps s
-    → s.outer ≡ [] → (es ≡ entries 0 s.inner) × (bs ≡ texts s.inner)
-one_level es bs ps s (e, b, p, h) o = (
-  rw o at e,
-  rw o at b,
-)

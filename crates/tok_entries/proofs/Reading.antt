@@ -45,14 +45,6 @@ other_trees : Forest → Forest
 other_trees no_trees = no_trees
 other_trees (tree t f) = f
 
-is_leaf : Tree → Bool
-is_leaf (leaf l) = true
-is_leaf (group d f s) = false
-
-the_leaf : Leaf → Tree → Leaf
-the_leaf other (leaf l) = l
-the_leaf other (group d f s) = other
-
 same_first : (t u : Tree) (f g : Forest) → tree t f ≡ tree u g → t ≡ u
 unfolding first_tree
 same_first t u f g e = ap (first_tree t) e
@@ -61,17 +53,8 @@ same_others : (t u : Tree) (f g : Forest) → tree t f ≡ tree u g → f ≡ g
 unfolding other_trees
 same_others t u f g e = ap other_trees e
 
-same_leaf : (l m : Leaf) → leaf l ≡ leaf m → l ≡ m
-unfolding the_leaf
-same_leaf l m e = ap (the_leaf l) e
-
 no_tree_first : (t : Tree) (f : Forest) → no_trees ≡ tree t f → ⊥
 no_tree_first t f e = false≢true (ap has_trees e)
-
-group_is_no_leaf : (d : Delimiter) (inside : Forest) (span : Span) (l : Leaf)
-    → group d inside span ≡ leaf l → ⊥
-unfolding is_leaf
-group_is_no_leaf d inside span l e = false≢true (ap is_leaf e)
 
 -- the texts of a tree and of those after it
 text_first : (t : Tree) (f : Forest) (bs : List ℕ) → BeginsWith bs (texts (tree t f))

@@ -1,5 +1,5 @@
 //! A builder that lexes a text directly into entries.
-ghost use Rattle.std.specs.Prelude.{◌≡◌, ◌+◌, ◌≤◌, ◌*◌, ◌^◌, ◌∷◌, ◌++◌, [], length, true, IfOk, OnErr, OnOk, string_bytes};
+ghost use Rattle.std.specs.Prelude.{◌≡◌, ◌+◌, ◌<◌, ◌≤◌, ◌/◌, ◌^◌, ◌∷◌, ◌++◌, [], length, min, true, IfOk, OnErr, OnOk, string_bytes};
 ghost use Rattle.tok_core.specs.Building.{nothing};
 ghost use Rattle.tok_entries.specs.Entries as spec;
 ghost use Rattle.tok_entries.specs.Private.Laid.{is_in_source, unclosed};
@@ -7,6 +7,7 @@ ghost use Rattle.tok_entries.specs.Private.Laid.{is_in_source, unclosed};
 use crate::entry::{CLOSING, Entry, IDENT, LITERAL, OPENING, PUNCT, edge, leaf, spacing_number};
 use std::alloc::{AllocError, Global};
 use std::marker::Model;
+use tok_core::room::{MOST_BYTES, counted_bytes};
 use tok_core::{Build, DelimSpan, Delimiter, Ident, Literal, Punct, Span};
 
 /// The kind of the entry for an opening delimiter whose group is not yet closed.
@@ -65,24 +66,18 @@ fn unclosed(at: usize) -> Entry
     }
 }
 
-// A text of fewer bytes gets no room before its first entry, and one of more no more than these.
-const FEWEST_BYTES: usize = 1 << 8;
-
-const MOST_BYTES: usize = 1 << 18;
-
 // Few texts have more entries than one in so many bytes: those of inner groups count, too.
 const BYTES_AN_ENTRY: usize = 4;
 
-// Returns for how many entries a builder has room at first.
-fn first_room(bytes: usize) -> usize
-    ensures share { 4 * result ≤ bytes }
-    ensures most { result ≤ 2 ^ 16 }
+/// Returns for how many entries a builder makes room before it reads a text of `bytes` bytes.
+///
+/// Returns 0 if the text has fewer than 256 bytes. Otherwise, returns a quarter of the text's length
+/// in bytes, but at most 65,536.
+pub fn first_room(bytes: usize) -> usize
+    ensures few { bytes < 2 ^ 8 → result ≡ 0 }
+    ensures many { 2 ^ 8 ≤ bytes → result ≡ min bytes (2 ^ 18) / 4 }
 {
-    if bytes < FEWEST_BYTES {
-        0
-    } else {
-        bytes.min(MOST_BYTES) / BYTES_AN_ENTRY
-    }
+    counted_bytes(bytes) / BYTES_AN_ENTRY
 }
 
 // Appends the entry and the text of an identifier or a literal. If that fails, nothing is appended.
@@ -118,7 +113,8 @@ impl EntryWriter {
     /// The builder has enough room for most texts of this length. Returns an error if an allocation
     /// fails.
     //
-    // A vector that grows from nothing copies its entries about once more.
+    // A vector that grows from nothing copies its entries about once more. Even a short text
+    // consists mostly of the texts of its tokens, which therefore get room at once.
     pub fn with_room(alloc: Global, bytes: usize) -> Result<EntryWriter, AllocError>
         ensures { IfOk result (λ b. b ≡ nothing) }
     {

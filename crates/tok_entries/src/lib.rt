@@ -13,6 +13,7 @@ mod lexing;
 mod texts;
 mod writing;
 
+pub use builder::first_room;
 pub use entry::Entry;
 pub use intake::{EntryFault, Refusal, TakeBack, read_entries};
 pub use lexing::LexedEntries;

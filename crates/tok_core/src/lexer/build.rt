@@ -1,10 +1,11 @@
 //! Builders, which create token trees or other values from the tokens of a text.
-ghost use Rattle.std.specs.Prelude.{◌≡◌, [], OnOk, OnErr, IfOk, ◌<◌, ◌≤◌, ◌*◌, ◌^◌, length, take, drop};
+ghost use Rattle.std.specs.Prelude.{◌≡◌, [], OnOk, OnErr, IfOk, ◌<◌, ◌≤◌, ◌/◌, ◌^◌, length, min, take, drop};
 ghost use Rattle.std.specs.Vec.{vec_len, vec_capacity};
 ghost use Rattle.tok_core.specs.Building.{Levels, add_leaf, nothing, opened, Closes};
 ghost use Rattle.tok_leaves.specs.Leaves.{ident_of, punct_of, literal_of};
 
 use crate::group::Group;
+use crate::room::{counted_bytes, fitted};
 use crate::stream::{TokenStream, TokenTree};
 use std::alloc::{AllocError, Global};
 use std::marker::Model;
@@ -103,30 +104,19 @@ fn take_level(
         trees.reserve(1)?;
         return Ok(Vec::new(alloc));
     }
+    // The trees that move out leave room.
     trees.split_off(start)
 }
-
-// A text of fewer bytes gets no room before its first tree, and one of more no more than these.
-const FEWEST_BYTES: usize = 1 << 8;
-
-const MOST_BYTES: usize = 1 << 18;
 
 // Few texts have more trees than one in so many bytes outside of all groups.
 const BYTES_A_TREE: usize = 16;
 
-// A vector that grows from nothing has room for so many trees at first.
-const FEWEST_TREES: usize = 4;
-
 // Returns for how many trees a builder has room at first.
 fn first_room(bytes: usize) -> usize
-    ensures share { 16 * result ≤ bytes }
-    ensures most { result ≤ 2 ^ 14 }
+    ensures few { bytes < 2 ^ 8 → result ≡ 0 }
+    ensures many { 2 ^ 8 ≤ bytes → result ≡ min bytes (2 ^ 18) / 16 }
 {
-    if bytes < FEWEST_BYTES {
-        0
-    } else {
-        bytes.min(MOST_BYTES) / BYTES_A_TREE
-    }
+    counted_bytes(bytes) / BYTES_A_TREE
 }
 
 impl TreeBuilder {
@@ -159,14 +149,10 @@ impl TreeBuilder {
     {
         let TreeBuilder {
             alloc,
-            mut trees,
+            trees,
             starts: _,
         } = self;
-        let room = trees.capacity();
-        if room > FEWEST_TREES && room / 2 > trees.len() {
-            trees = trees.split_off(0)?;
-        }
-        Ok(TokenStream::of_trees(alloc, trees))
+        Ok(TokenStream::of_trees(alloc, fitted(trees)?))
     }
 }
 
