@@ -1,5 +1,5 @@
 //! The error type of parsers, and the texts of their error messages.
-ghost use Rattle.std.specs.Prelude.{◌≡◌, ◌++◌, IfOk, IfSome, MatchResult, codes, string_bytes};
+ghost use Rattle.std.specs.Prelude.{◌≡◌, ◌++◌, IfOk, IfSome, MatchResult, string_bytes};
 ghost use Rattle.tok_buffer.specs.Messages.{message_at};
 ghost use Rattle.syn_parse.specs.Faults.{Combines, Refuses, RefusesAt};
 ghost use Rattle.syn_parse.specs.ErrorWords.{delimiter_words, leftover_words};
@@ -69,6 +69,8 @@ impl Fault {
     }
 
     // Returns the fault of an error of this text at `span`, or the allocation failure in its place.
+    //
+    // Unlike `at`, this calls no formatter: alternatives on forks refuse again and again.
     pub(crate) fn of_text(
         alloc: Global,
         span: Span,
@@ -162,32 +164,19 @@ pub(crate) fn words_of(delimiter: Delimiter) -> (&'static str, &'static str)
     }
 }
 
-// Returns two texts in a row, written in one allocation.
+// Returns three texts in a row, written in one allocation.
 pub(crate) fn joined(
     alloc: Global,
     front: &str,
     text: &str,
+    back: &str,
 ) -> std::result::Result<String, AllocError>
-    ensures { IfOk result (λ t. string_bytes t ≡ front.now ++ text.now) }
+    ensures { IfOk result (λ t. string_bytes t ≡ front.now ++ (text.now ++ back.now)) }
 {
-    let mut words = String::with_capacity(alloc, front.len().saturating_add(text.len()))?;
+    let inside = text.len().saturating_add(back.len());
+    let mut words = String::with_capacity(alloc, front.len().saturating_add(inside))?;
     words.push_str(front)?;
     words.push_str(text)?;
-    Ok(words)
-}
-
-// Returns two texts in a row and a backquote, written in one allocation.
-pub(crate) fn quoted(
-    alloc: Global,
-    front: &str,
-    text: &str,
-) -> std::result::Result<String, AllocError>
-    ensures { IfOk result (λ t. string_bytes t ≡ front.now ++ (text.now ++ codes "`")) }
-{
-    let room = front.len().saturating_add(text.len()).saturating_add(1);
-    let mut words = String::with_capacity(alloc, room)?;
-    words.push_str(front)?;
-    words.push_str(text)?;
-    words.push_str("`")?;
+    words.push_str(back)?;
     Ok(words)
 }

@@ -9,7 +9,7 @@ ghost use Rattle.syn_parse.specs.Faults.{Refuses};
 ghost use Rattle.syn_parse.specs.Parses.{PunctuationParses, WordParses, ascii_chars};
 ghost use Rattle.syn_parse.specs.ErrorWords.{punctuation_message, punctuation_span};
 
-use crate::fault::{Fault, Result, quoted};
+use crate::fault::{Fault, Result, joined};
 use crate::stream::{ParseBuffer, ParseStream};
 use tok_buffer::Cursor;
 use tok_core::Span;
@@ -86,7 +86,7 @@ impl<'a> ParseBuffer<'a> {
     {
         let span = self.punct_span(text);
         let alloc = self.allocator();
-        Fault::of_text(alloc, span, quoted(alloc, "expected `", text))
+        Fault::of_text(alloc, span, joined(alloc, "expected `", text, "`"))
     }
 
     fn punct_span(&self, text: &str) -> Span

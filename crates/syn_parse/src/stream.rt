@@ -13,7 +13,7 @@ ghost use Rattle.syn_parse.specs.Takes.{SaysAt, missing_next};
 ghost use Rattle.tok_types.specs.Texts.{in_backquotes};
 ghost use Rattle.syn_parse.specs.TreesAhead.{IsFilled, after_content, after_fork, ahead, is_spent};
 
-use crate::fault::{Fault, Result, joined, quoted, words_of};
+use crate::fault::{Fault, Result, joined, words_of};
 use std::alloc::Global;
 use std::fmt;
 use std::fmt::{Debug, Display, Formatter, Write};
@@ -189,21 +189,21 @@ impl<'a> ParseBuffer<'a> {
         Fault::refused(Error::new_at(self.alloc, self.scope_span, self.cursor, message))
     }
 
-    // Returns the error with these words, as `error` does. No formatter is called.
+    // Returns the error with these words, as `error` does.
     // Kept out of line: parsers mostly find their token.
     #[inline(never)]
     pub(crate) fn refuse(&self, words: &str) -> Fault
         ensures { Refuses (refused_at self.now words.now) result }
     {
         let text = if self.cursor.eof() {
-            joined(self.alloc, "unexpected end of input, ", words)
+            joined(self.alloc, "unexpected end of input, ", "", words)
         } else {
             String::from_str(self.alloc, words)
         };
         Fault::of_text(self.alloc, self.span(), text)
     }
 
-    // Returns the error that this text was expected, as `error` does. No formatter is called.
+    // Returns the error that this text was expected, as `error` does.
     #[inline(never)]
     pub(crate) fn refuse_text(&self, text: &str) -> Fault
         ensures { Refuses (refused_at self.now (expected (in_backquotes text.now))) result }
@@ -213,7 +213,7 @@ impl<'a> ParseBuffer<'a> {
         } else {
             "expected `"
         };
-        let words = quoted(self.alloc, front, text);
+        let words = joined(self.alloc, front, text, "`");
         Fault::of_text(self.alloc, self.span(), words)
     }
 
