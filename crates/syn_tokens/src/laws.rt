@@ -3,7 +3,7 @@
 //!
 //! The last laws call items that this crate re-exports. They ensure that each of these items has
 //! the right name.
-ghost use Rattle.std.specs.Prelude.{◌≡◌, ℕ, List, IfOk, codes, map};
+ghost use Rattle.std.specs.Prelude.{◌≡◌, ℕ, Bool, List, IfOk, Some, codes, map};
 ghost use Rattle.std.specs.Str.{chars};
 ghost use Rattle.tok_lexical.specs.declared.delimiter.Delimiter.TheVariants.{Brace, Bracket, Parenthesis};
 ghost use Rattle.tok_lexical.specs.declared.rule.Mode.TheVariants.{Marked, Plain};
@@ -12,6 +12,8 @@ ghost use Rattle.tok_core.specs.Clear.{clear};
 ghost use Rattle.tok_core.specs.Filled.{filled};
 ghost use Rattle.tok_core.specs.Lexical.Outcome.{FollowsGrammar};
 ghost use Rattle.tok_pruned.specs.Pruned.{pruned};
+ghost use Rattle.tok_buffer.specs.Place.{Place, is_at_end};
+ghost use Rattle.tok_types.specs.Sees.{any_ident_first};
 ghost use Rattle.syn_parse.specs.Parsers.{ParsesWhole, whole_stream};
 ghost use Rattle.syn_parse.specs.Takes.{EntersAhead};
 ghost use Rattle.syn_parse.specs.Takings.{Keeps};
@@ -27,6 +29,8 @@ use crate::LitInt;
 use crate::LitStr;
 use crate::SignedFloat;
 use crate::SignedInt;
+use crate::ext::IdentAny;
+use crate::parse::End;
 use crate::parse::NotNext;
 use crate::parse::OneOf;
 use crate::parse::Then;
@@ -372,4 +376,12 @@ pub fn peeks_have_their_meanings<A: Token, B: Token>()
     ensures in_turn { ⟦<Then<A, B> as Token>⟧.sees ≡ both_see A.sees (second_sees B.sees) }
     ensures either { ⟦<OneOf<A, B> as Token>⟧.sees ≡ either_sees A.sees B.sees }
     ensures another { ⟦<NotNext<A> as Token>⟧.sees ≡ not_sees A.sees }
+{}
+
+/// A peek for `IdentAny` returns `true` if and only if an identifier is next. A peek for `End`
+/// returns `true` only at the end of the stream.
+pub fn peeks_tell_identifiers_and_ends()
+    ensures identifiers { ⟦<IdentAny as Token>⟧.sees ≡ Some any_ident_first }
+    ensures ends { (p : Place) (found : Bool) → ⟦<End as Token>⟧.peeks p found
+        → found ≡ is_at_end p }
 {}
