@@ -1,10 +1,9 @@
 -- Puncts that are written one after the other.
-use Rattle.std.proofs.Common.{◌≡◌, ◌∙◌, ◌<◌, ◌≤◌, ◌+◌, sym, ap, refl, ℕ, zero, suc, Bool, true}
+use Rattle.std.proofs.Common.{◌≡◌, ◌<◌, ◌≤◌, ◌+◌, ap, refl, ℕ, zero, suc, true}
 use Rattle.std.proofs.Common.{false, ◌&&◌, List, [], ◌∷◌, ◌++◌, length, take, drop, get_or}
-use Rattle.std.proofs.Common.{arith, eqb-true}
+use Rattle.std.proofs.Common.{arith}
 use Rattle.std.specs.Prelude.{◌==◌}
 use Rattle.std.specs.List.{list_all}
-use Rattle.std.proofs.lemmas.Bool.{cond-true, cond-false, eq-eqb, eqb-false, ne_eqb}
 use Rattle.std.proofs.lemmas.List.{drop_more, take-append-drop, take_all, take_more}
 use Rattle.tok_leaves.specs.declared.span.Span.{Span}
 use Rattle.tok_core.specs.Forest.{Tree, leaf, Forest, no_trees, tree, forest, concat, AppendsFront}
@@ -21,42 +20,21 @@ forest-append (t ∷ ts) us = ap (tree t) (forest-append ts us)
 puncts-length : (cs : List ℕ) (ss : List Span) → length cs ≡ length ss →
     length (joint_puncts cs ss) ≡ length cs
 puncts-length [] ss h = refl
-puncts-length (c ∷ []) [] h = absurd (omega (arith, h))
-puncts-length (c ∷ []) (s ∷ ss) h = refl
+puncts-length (c ∷ []) ss h = grind arith
 puncts-length (c ∷ (d ∷ cs)) [] h = absurd (omega (arith, h))
 puncts-length (c ∷ (d ∷ cs)) (s ∷ ss) h =
     omega (arith, puncts-length (d ∷ cs) ss (omega (arith, h)))
 
-module _ (other : Tree) (span : Span) where
-  at_end : (cs : List ℕ) (ss : List Span) (i : ℕ) → length cs ≡ length ss → i + 1 ≡ length cs →
-      get_or (joint_puncts cs ss) i other
-      ≡ leaf (punct (get_or cs i 0) (spacing true) (get_or ss i span))
-  at_end [] ss i h last = absurd (omega (arith, last))
-  at_end (c ∷ []) [] i h last = absurd (omega (arith, h))
-  at_end (c ∷ []) (s ∷ ss) zero h last = refl
-  at_end (c ∷ []) (s ∷ ss) (suc i) h last = absurd (omega (arith, last))
-  at_end (c ∷ (d ∷ cs)) [] i h last = absurd (omega (arith, h))
-  at_end (c ∷ (d ∷ cs)) (s ∷ ss) zero h last = absurd (omega (arith, last))
-  at_end (c ∷ (d ∷ cs)) (s ∷ ss) (suc i) h last = at_end (d ∷ cs) ss i (omega (arith, h))
-      (omega (arith, last))
-
-  before_end : (cs : List ℕ) (ss : List Span) (i : ℕ) → length cs ≡ length ss →
-      i + 1 < length cs → get_or (joint_puncts cs ss) i other
-      ≡ leaf (punct (get_or cs i 0) (spacing false) (get_or ss i span))
-  before_end [] ss i h more = absurd (omega (arith, more))
-  before_end (c ∷ []) ss i h more = absurd (omega (arith, more))
-  before_end (c ∷ (d ∷ cs)) [] i h more = absurd (omega (arith, h))
-  before_end (c ∷ (d ∷ cs)) (s ∷ ss) zero h more = refl
-  before_end (c ∷ (d ∷ cs)) (s ∷ ss) (suc i) h more = before_end (d ∷ cs) ss i (omega (arith, h))
-      (omega (arith, more))
-
-  at_index : (cs : List ℕ) (ss : List Span) (i : ℕ) (last : Bool) → length cs ≡ length ss →
-      i < length ss → (i + 1 == length ss) ≡ last → get_or (joint_puncts cs ss) i other
-      ≡ leaf (punct (get_or cs i 0) (spacing last) (get_or ss i span))
-  at_index cs ss i true h low e =
-      at_end cs ss i h (omega (arith, h, eqb-true (i + 1) (length ss) e))
-  at_index cs ss i false h low e =
-      before_end cs ss i h (omega (arith, h, low, eqb-false (i + 1) (length ss) e))
+at_index : (other : Tree) (span : Span) (cs : List ℕ) (ss : List Span) (i : ℕ) →
+    length cs ≡ length ss → i < length ss → get_or (joint_puncts cs ss) i other
+    ≡ leaf (punct (get_or cs i 0) (spacing (i + 1 == length ss)) (get_or ss i span))
+at_index other span cs [] i h low = absurd (omega (arith, low))
+at_index other span [] (s ∷ ss) i h low = absurd (omega (arith, h))
+at_index other span (c ∷ []) (s ∷ ss) i h low = grind arith
+at_index other span (c ∷ (d ∷ cs)) (s ∷ ss) zero h low = grind arith
+at_index other span (c ∷ (d ∷ cs)) (s ∷ ss) (suc i) h low =
+    let more = at_index other span (d ∷ cs) ss i (omega (arith, h)) (omega (arith, low)) in
+    grind arith
 
 -- the punct at an index
 abbrev punct_of_several : (cs : List ℕ) (ss : List Span) (i : ℕ) → Tree
@@ -73,31 +51,19 @@ puncts_step old before new cs ss i h low was now =
     let ts = joint_puncts cs ss in
     let t : Tree = punct_of_several cs ss i in
     let more : take (i + 1) ts ≡ take i ts ++ t ∷ [] =
-    take_more ts i t (omega (arith, h, low, puncts-length cs ss h))
-    ∙ ap (λ x. take i ts ++ x ∷ []) (at_index t call_site cs ss i (i + 1 == length ss) h low
-    refl) in
-    now
-    ∙ ap (λ f. concat f (tree t no_trees)) was
-    ∙ joined_assoc old (forest (take i ts)) (tree t no_trees)
-    ∙ ap (concat old) (sym (forest-append (take i ts) (t ∷ [])) ∙ ap forest (sym more))
+    rw (← (at_index t call_site cs ss i h low))
+    (take_more ts i t (omega (arith, h, low, puncts-length cs ss h))) in
+    rw (now, was, more, forest-append, joined_assoc) refl
 
 module _ (cs : List ℕ) (ss : List Span) (h : length cs ≡ length ss)
     (all : list_all is_punct_or_apostrophe cs ≡ true) where
-  both_hold : (a b : Bool) → a ≡ true → b ≡ true → (a && b) ≡ true
-  both_hold a b e f = ap (λ x. x && b) e ∙ f
-
   whole : puncts cs ss ≡ forest (joint_puncts cs ss)
-  whole = cond-true (length cs == length ss && list_all is_punct_or_apostrophe cs)
-      (forest (joint_puncts cs ss)) no_trees (both_hold _ _ (eq-eqb (length cs) (length ss) h)
-      all)
+  whole = grind arith
 
   -- all of them
   pub puncts_done : (old new : Forest) (i : ℕ) → length ss ≤ i →
       new ≡ concat old (forest (take i (joint_puncts cs ss))) → new ≡ concat old (puncts cs ss)
-  puncts_done old new i past e =
-      e ∙ ap (λ ts. concat old (forest ts))
-      (take_all i (joint_puncts cs ss) (omega (arith, h, past, puncts-length cs ss h)))
-      ∙ ap (concat old) (sym whole)
+  puncts_done old new i past e = grind (arith, take_all, puncts-length, whole)
 
   -- or those before one that was refused
   pub puncts_stopped : (old new : Forest) (i : ℕ) → i < length ss →
@@ -112,8 +78,9 @@ module _ (cs : List ℕ) (ss : List Span) (h : length cs ≡ length ss)
         forest (take i ts),
         t,
         forest (drop (i + 1) ts),
-        whole ∙ ap forest (sym (take-append-drop i ts)) ∙ forest-append (take i ts) (drop i ts)
-            ∙ ap (λ us. concat (forest (take i ts)) (forest us)) here,
+        (let all = take-append-drop i ts in
+            let parts = forest-append (take i ts) (drop i ts) in
+            cc whole),
         e,
       )
 
@@ -121,21 +88,12 @@ module _ (cs : List ℕ) (ss : List Span) (h : length cs ≡ length ss)
 nothing : (old : Forest) (cs : List ℕ) (ss : List Span) →
     (length cs == length ss && list_all is_punct_or_apostrophe cs) ≡ false →
     old ≡ concat old (puncts cs ss)
-nothing old cs ss e =
-    sym (ap (concat old)
-    (cond-false (length cs == length ss && list_all is_punct_or_apostrophe cs)
-    (forest (joint_puncts cs ss)) no_trees e) ∙ concat-none old)
+nothing old cs ss e = grind (arith, concat-none)
 
 pub not_as_many : (old : Forest) (cs : List ℕ) (ss : List Span) → (length cs ≡ length ss → ⊥) →
     old ≡ concat old (puncts cs ss)
-not_as_many old cs ss h =
-    nothing old cs ss (ap (λ b. b && list_all is_punct_or_apostrophe cs)
-    (ne_eqb (length cs) (length ss) h))
+not_as_many old cs ss h = grind (arith, nothing)
 
 pub not_all_puncts : (old : Forest) (cs : List ℕ) (ss : List Span) →
     list_all is_punct_or_apostrophe cs ≡ false → old ≡ concat old (puncts cs ss)
-not_all_puncts old cs ss h =
-    nothing old cs ss (go (length cs == length ss) (list_all is_punct_or_apostrophe cs) h) where
-      go : (a b : Bool) → b ≡ false → (a && b) ≡ false
-      go true b e = e
-      go false b e = refl
+not_all_puncts old cs ss h = grind (arith, nothing)

@@ -1,23 +1,16 @@
 -- The reserved texts by their first byte.
-use Rattle.std.proofs.Common.{◌≡◌, ◌∙◌, ◌<◌, sym, ap, refl, ℕ, Bool, true, false, ◌||◌, ◌&&◌}
-use Rattle.std.proofs.Common.{cond, List, [], ◌∷◌, Bor, length, get_or, arith}
+use Rattle.std.proofs.Common.{◌≡◌, ◌<◌, sym, ap, refl, ℕ, Bool, true, ◌||◌}
+use Rattle.std.proofs.Common.{List, [], ◌∷◌, Bor, length, get_or, arith}
 use Rattle.std.specs.Prelude.{bytes_eq, ◌==◌}
 use Rattle.std.specs.List.{list_all, list_any}
-use Rattle.std.proofs.lemmas.Bool.{false≢true, eqb-true, and_parts}
+use Rattle.std.proofs.lemmas.Bool.{false≢true, and_parts}
 use Rattle.tok_types.specs.Texts.{accept_as_ident, beginning, is_among, reserved, texts_of}
 
 -- only a text that begins alike is this one
 among_beginning : (ts : List (List ℕ)) (c : ℕ) (s : List ℕ) → is_among (beginning c ts) (c ∷ s)
     ≡ is_among ts (c ∷ s)
 among_beginning [] c s = refl
-among_beginning ([] ∷ ts) c s = among_beginning ts c s
-among_beginning ((d ∷ t) ∷ ts) c s = go (d == c) refl (among_beginning ts c s)
-  where
-    go : (b : Bool) → (d == c) ≡ b → is_among (beginning c ts) (c ∷ s) ≡ is_among ts (c ∷ s) →
-        is_among (cond b ((d ∷ t) ∷ beginning c ts) (beginning c ts)) (c ∷ s)
-        ≡ (bytes_eq (d ∷ t) (c ∷ s) || is_among ts (c ∷ s))
-    go true e more = ap (λ w. bytes_eq (d ∷ t) (c ∷ s) || w) more
-    go false e more = more ∙ ap (λ w. (w && bytes_eq t s) || is_among ts (c ∷ s)) (sym e)
+among_beginning (t ∷ ts) c s = let more = among_beginning ts c s in grind arith
 
 -- the texts of a table
 among_rows : (rows : List (Bor (List ℕ))) (text : List ℕ) →
@@ -30,13 +23,10 @@ pub rows_tell_reserved : (rows : List (Bor (List ℕ))) (text : List ℕ) (first
     list_any (λ (row : Bor (List ℕ)). bytes_eq row.now text) rows ≡ is_among reserved text
 rows_tell_reserved rows [] first l f e = absurd (omega arith)
 rows_tell_reserved rows (c ∷ s) first l f e =
-    among_rows rows (c ∷ s)
-    ∙ ap (λ ts. is_among ts (c ∷ s)) (e ∙ ap (λ w. beginning w reserved) f)
-    ∙ among_beginning reserved c s
+    rw (among_rows rows (c ∷ s), e, f) (among_beginning reserved c s)
 
 pub empty_accepted : (text : List ℕ) → length text ≡ 0 → accept_as_ident text ≡ true
-empty_accepted [] h = refl
-empty_accepted (c ∷ s) h = absurd (omega arith)
+empty_accepted text h = grind arith
 
 -- their first bytes
 abbrev pub firsts : List ℕ
@@ -50,12 +40,7 @@ IsNone b (f ∷ fs) = (b ≡ f → ⊥) × IsNone b fs
 
 apart : (b c : ℕ) (fs : List ℕ) → IsNone b fs → list_any (λ f. c == f) fs ≡ true → c ≡ b → ⊥
 apart b c [] none h e = false≢true h
-apart b c (f ∷ fs) none h e = go (c == f) refl h (apart b c fs none.1)
-  where
-    go : (w : Bool) → (c == f) ≡ w → (w || list_any (λ g. c == g) fs) ≡ true →
-        (list_any (λ g. c == g) fs ≡ true → c ≡ b → ⊥) → ⊥
-    go true is k more = none.0 (sym e ∙ eqb-true c f is)
-    go false is k more = more k e
+apart b c (f ∷ fs) none h e = let more = apart b c fs none.1 in grind arith
 
 abbrev begins_known : List ℕ → Bool
 begins_known [] = true
@@ -67,12 +52,9 @@ none_begins b [] none h = refl
 none_begins b ([] ∷ ts) none h = none_begins b ts none h
 none_begins b ((c ∷ t) ∷ ts) none h =
     let parts = and_parts (list_any (λ f. c == f) firsts) (list_all begins_known ts) h in
-    go (c == b) refl (apart b c firsts none parts.0) (none_begins b ts none parts.1)
-  where
-    go : (w : Bool) → (c == b) ≡ w → (c ≡ b → ⊥) → beginning b ts ≡ [] →
-        cond w ((c ∷ t) ∷ beginning b ts) (beginning b ts) ≡ []
-    go true is n more = absurd (n (eqb-true c b is))
-    go false is n more = more
+    let other = apart b c firsts none parts.0 in
+    let more = none_begins b ts none parts.1 in
+    grind arith
 
 -- no reserved text begins with another byte
 pub none_reserved : (b : ℕ) → IsNone b firsts → beginning b reserved ≡ []

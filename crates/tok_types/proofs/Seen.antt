@@ -1,6 +1,5 @@
 -- Peeks see what is first of the visible trees ahead.
-use Rattle.std.proofs.Common.{◌≡◌, ◌∙◌, ap, ℕ, zero, suc, Option}
-use Rattle.std.proofs.Common.{Some, None}
+use Rattle.std.proofs.Common.{◌≡◌, ◌∙◌, ℕ, Option, arith}
 use Rattle.std.proofs.Common.{Bool}
 use Rattle.std.specs.Prelude.{codes, is_some, option_map}
 use Rattle.tok_lexical.specs.declared.delimiter.Delimiter.{Delimiter}
@@ -20,14 +19,11 @@ use Rattle.tok_types.specs.Sees.{punct_first, punctuation_first, underscore_firs
 use Rattle.tok_types.specs.Texts.{accept_as_ident, keyword_text, punctuation_word}
 
 pub is_visible : (n : ℕ) → IsVisibleDelimiter (delimiter_at n)
-is_visible zero = tt
-is_visible (suc zero) = tt
-is_visible (suc (suc n)) = tt
+is_visible n = grind arith
 
 pub found_as : {A B : Type 0} (h : A → B) (r : Option A) (q : Option B) → option_map h r ≡ q
     → is_some r ≡ is_some q
-found_as h None q e = ap is_some e
-found_as h (Some x) q e = ap is_some e
+found_as h r q e = grind arith
 
 pub ident_seen : (p : Place) (b : Bool) → PeeksFor (read_word accept_as_ident) p b
     → b ≡ ident_first (erased_ahead p)

@@ -1,5 +1,5 @@
 -- Peeks at places with equal views.
-use Rattle.std.proofs.Common.{◌≡◌, ◌∙◌, sym, ap, refl, Option, Some, None}
+use Rattle.std.proofs.Common.{◌≡◌, ◌∙◌, sym, Option, arith}
 use Rattle.std.specs.Prelude.{option_map, is_some}
 use Rattle.tok_lexical.specs.declared.delimiter.Delimiter.{Delimiter}
 use Rattle.tok_buffer.specs.EachRead.{First, Read}
@@ -11,14 +11,9 @@ use Rattle.tok_buffer.proofs.View.Readings.{Reading}
 use Rattle.tok_types.specs.Views.{IgnoresInvisible}
 use Rattle.tok_types.specs.Looks.{PeeksFor}
 
-found-view : {A : Type 0} {B : Type 0} (f : A → B) (r : Option A)
-    → is_some (option_map f r) ≡ is_some r
-found-view f None = refl
-found-view f (Some x) = refl
-
 found-both : {A : Type 0} {B : Type 0} (f g : A → B) (r q : Option A)
     → option_map f r ≡ option_map g q → is_some r ≡ is_some q
-found-both f g r q e = sym (found-view f r) ∙ ap is_some e ∙ found-view g q
+found-both f g r q e = grind arith
 
 -- a read finds something at both places, or at neither
 pub finds : {read : Read} {first : First} → Reading read first → IgnoresInvisible (PeeksFor read)

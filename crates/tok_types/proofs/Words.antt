@@ -1,12 +1,12 @@
 -- The texts of the tables are ASCII, and those of keywords are identifiers.
-use Rattle.std.proofs.Common.{◌≡◌, ◌∙◌, ◌<◌, sym, ap, subst, refl, ℕ, zero, suc, Bool, true}
-use Rattle.std.proofs.Common.{false, ◌&&◌, ◌||◌, cond, List, [], ◌∷◌, get_or, length, ◌≤◌, ◌⊎◌}
-use Rattle.std.proofs.Common.{inl, inr, arith, eqb-true, encode_utf8_all}
+use Rattle.std.proofs.Common.{◌≡◌, ◌∙◌, ◌<◌, sym, ap, refl, ℕ, zero, suc, Bool, true}
+use Rattle.std.proofs.Common.{false, ◌&&◌, ◌||◌, List, [], ◌∷◌, get_or, length}
+use Rattle.std.proofs.Common.{inl, inr, arith, encode_utf8_all}
 use Rattle.std.specs.Prelude.{codes, nat_lt, slice_index, ◌==◌, Result, OnErr}
 use Rattle.std.specs.List.{list_all}
 use Rattle.std.specs.Char.{is_ascii_alphabetic, is_ascii_alphanumeric}
 use Rattle.std.specs.Str.{chars, IsUtf8}
-use Rattle.std.proofs.lemmas.Bool.{eqb-false, false≢true, ltb-true, and_parts, and_from}
+use Rattle.std.proofs.lemmas.Bool.{eqb-false, false≢true, ltb-true, and_parts, and_from, cases_lt, cond_both}
 use Rattle.std.proofs.lemmas.List.{get_or_past}
 use Rattle.std.proofs.lemmas.Str.{chars-IsAscii, chars-nil, encodes-chars}
 use Rattle.unicode_ident.specs.Ident.{is_xid_continue}
@@ -65,53 +65,35 @@ continues (c ∷ cs) a h =
     (continues cs ascii.1 parts.1)
 
 word_is_identifier : (t : List ℕ) → is_ascii t ≡ true → is_word t ≡ true → IsIdentifier t
-word_is_identifier [] a h = absurd (false≢true h)
-word_is_identifier (c ∷ cs) a h =
-    let ascii = and_parts (nat_lt c 128) (is_ascii cs) a in
-    let parts =
-    and_parts (is_ascii_alphabetic c || (c == 95)) (list_all is_ascii_continue cs) h in (
-      ap (λ b. b || (c == 95)) (is_xid_start-ascii c (ltb-true c 128 ascii.0)) ∙ parts.0,
-      continues cs ascii.1 parts.1,
-    )
+word_is_identifier t a h =
+    grind (arith, false≢true, and_parts, is_xid_start-ascii, ltb-true, continues)
 
 word-chars : (t : List ℕ) → is_ascii t ≡ true → is_word t ≡ true → IsIdentifier (chars t)
-word-chars t a h = subst IsIdentifier (sym (ascii_chars t a)) (word_is_identifier t a h)
-
-keywords-are-words : list_all is_word keywords ≡ true
-keywords-are-words = refl
+word-chars t a h = rw (ascii_chars t a) (word_is_identifier t a h)
 
 -- the text of a keyword of the table
 pub keyword-identifier : (k : ℕ) → k < length keywords → IsIdentifier (chars (keyword_text k))
 keyword-identifier k h = word-chars (keyword_text k) (of_each is_ascii keywords k refl refl)
-    (of_each_in is_word keywords k h keywords-are-words)
-
-below_or_not : (k i : ℕ) → (k < i) ⊎ (i ≤ k)
-below_or_not k zero = inr (omega arith)
-below_or_not zero (suc i) = inl (omega arith)
-below_or_not (suc k) (suc i) =
-    elim (below_or_not k i) [ inl h ↦ inl (omega (arith, h)) | inr h ↦ inr (omega (arith, h)) ]
+    (of_each_in is_word keywords k h refl)
 
 -- and the text of any number
 pub keyword-suffix : (k : ℕ) → IsSuffix (chars (keyword_text k))
 keyword-suffix k =
-    elim (below_or_not k (length keywords)) [
+    elim (cases_lt k (length keywords)) [
       | inl h ↦ inr (keyword-identifier k h)
       | inr h ↦ inl (ap chars (get_or_past keywords k [] h) ∙ chars-nil)
     ]
-
-some : (t : List ℕ) → (length t == 0) ≡ false → t ≡ [] → ⊥
-some t h e = false≢true (sym h ∙ ap (λ u. length u == 0) e)
 
 -- a text that isn't empty spells some character
 pub suffix-identifier : (t : List ℕ) → IsUtf8 t → (length t == 0) ≡ false → IsSuffix (chars t) →
     IsIdentifier (chars t)
 suffix-identifier t u h (inl none) =
-    absurd (some t h (sym (encodes-chars t u) ∙ ap encode_utf8_all none))
+    let empty : t ≡ [] = sym (encodes-chars t u) ∙ ap encode_utf8_all none in
+    absurd (grind arith)
 suffix-identifier t u h (inr word) = word
 
 pub word-empty : (t : List ℕ) (span : Span) → (length t == 0) ≡ true → word t span ≡ no_trees
-word-empty [] span h = refl
-word-empty (c ∷ cs) span h = absurd (omega (arith, eqb-true (length (c ∷ cs)) 0 h))
+word-empty t span h = grind arith
 
 -- where a word that is written is refused, nothing of it went out
 pub word-refused : {T E : Type 0} (r : Result T E) (t : List ℕ) (span : Span)
@@ -124,11 +106,7 @@ word-refused r (c ∷ cs) span old new h e = none_appended r old (leaf (ident (c
 pub underscore-identifier : IsIdentifier (chars (codes "_"))
 underscore-identifier = word-chars (codes "_") refl refl
 
-cond_is_ascii : (b : Bool) (t : List ℕ) → is_ascii t ≡ true → is_ascii (cond b t []) ≡ true
-cond_is_ascii true t h = h
-cond_is_ascii false t h = refl
-
 pub punctuation-chars : (k n : ℕ) → chars (punctuation_word k n) ≡ punctuation_word k n
 punctuation-chars k n = ascii_chars (punctuation_word k n)
-    (cond_is_ascii (length (punctuation_text k) == n) (punctuation_text k)
-    (of_each is_ascii punctuations k refl refl))
+    (cond_both (length (punctuation_text k) == n) (punctuation_text k) []
+    (λ t. is_ascii t ≡ true) (λ _. of_each is_ascii punctuations k refl refl) (λ _. refl))

@@ -138,6 +138,7 @@ impl<const D: usize> Token for Visible<D> {
 
     ghost shown = { IsText (delimiter_display (delimiter_at D)) };
 
+    #[tactic(auto, using(crate::proofs::Seen::group_seen, crate::proofs::Seen::is_visible))]
     fn peek(cursor: Cursor<'_>) -> bool {
         cursor.group(Self::delimiter()).is_some()
     }

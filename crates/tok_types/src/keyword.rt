@@ -52,6 +52,7 @@ impl<const K: usize> Token for Keyword<K> {
 
     ghost shown = { IsText (in_backquotes (keyword_text K)) };
 
+    #[tactic(auto, using(crate::proofs::Seen::keyword_seen))]
     fn peek(cursor: Cursor<'_>) -> bool {
         cursor.peek_keyword(keyword_text(K))
     }

@@ -48,6 +48,7 @@ impl Token for IdentAny {
 
     ghost shown = { IsText (codes "identifier") };
 
+    #[tactic(auto, using(crate::proofs::Seen::any_ident_seen))]
     fn peek(cursor: Cursor<'_>) -> bool {
         cursor.ident().is_some()
     }
@@ -65,6 +66,7 @@ impl Token for Lifetime {
 
     ghost shown = { IsText (codes "lifetime") };
 
+    #[tactic(auto, using(crate::proofs::Seen::lifetime_seen))]
     fn peek(cursor: Cursor<'_>) -> bool {
         cursor.lifetime().is_some()
     }
@@ -81,6 +83,7 @@ impl Token for Literal {
 
     ghost shown = { IsText (codes "literal") };
 
+    #[tactic(auto, using(crate::proofs::Seen::literal_seen))]
     fn peek(cursor: Cursor<'_>) -> bool {
         cursor.literal().is_some()
     }
@@ -98,6 +101,7 @@ impl Token for Punct {
 
     ghost shown = { IsText (codes "punctuation token") };
 
+    #[tactic(auto, using(crate::proofs::Seen::punct_seen))]
     fn peek(cursor: Cursor<'_>) -> bool {
         cursor.punct().is_some()
     }

@@ -60,6 +60,7 @@ impl Token for Underscore {
 
     ghost shown = { IsText (codes "`_`") };
 
+    #[tactic(auto, using(crate::proofs::Seen::underscore_seen))]
     fn peek(cursor: Cursor<'_>) -> bool {
         cursor.peek_keyword("_")
     }

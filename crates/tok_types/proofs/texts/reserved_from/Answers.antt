@@ -1,4 +1,4 @@
-use Rattle.std.proofs.Common.{◌≡◌, sym, rules, tests}
+use Rattle.std.proofs.Common.{sym, rules, tests}
 use Rattle.tok_types.proofs.Reserved.{none_reserved, same_first}
 use Rattle.tok_types.proofs.texts.reserved_from.Goals as goal
 
@@ -63,61 +63,4 @@ pub returns-in-121 : goal.returns-in-121
 returns-in-121 c = same_first c.args.first 121 c.in-121.is
 
 pub returns-in_default : goal.returns-in_default
-returns-in_default c =
-    let n83 : c.args.first ≡ 83 → ⊥ = search (tests, rules) in
-    let n95 : c.args.first ≡ 95 → ⊥ = search (tests, rules) in
-    let n97 : c.args.first ≡ 97 → ⊥ = search (tests, rules) in
-    let n98 : c.args.first ≡ 98 → ⊥ = search (tests, rules) in
-    let n99 : c.args.first ≡ 99 → ⊥ = search (tests, rules) in
-    let n100 : c.args.first ≡ 100 → ⊥ = search (tests, rules) in
-    let n101 : c.args.first ≡ 101 → ⊥ = search (tests, rules) in
-    let n102 : c.args.first ≡ 102 → ⊥ = search (tests, rules) in
-    let n105 : c.args.first ≡ 105 → ⊥ = search (tests, rules) in
-    let n108 : c.args.first ≡ 108 → ⊥ = search (tests, rules) in
-    let n109 : c.args.first ≡ 109 → ⊥ = search (tests, rules) in
-    let n111 : c.args.first ≡ 111 → ⊥ = search (tests, rules) in
-    let n112 : c.args.first ≡ 112 → ⊥ = search (tests, rules) in
-    let n114 : c.args.first ≡ 114 → ⊥ = search (tests, rules) in
-    let n115 : c.args.first ≡ 115 → ⊥ = search (tests, rules) in
-    let n116 : c.args.first ≡ 116 → ⊥ = search (tests, rules) in
-    let n117 : c.args.first ≡ 117 → ⊥ = search (tests, rules) in
-    let n118 : c.args.first ≡ 118 → ⊥ = search (tests, rules) in
-    let n119 : c.args.first ≡ 119 → ⊥ = search (tests, rules) in
-    let n121 : c.args.first ≡ 121 → ⊥ = search (tests, rules) in
-    sym (none_reserved c.args.first (
-      n83,
-      (
-        n95,
-        (
-          n97,
-          (
-            n98,
-            (
-              n99,
-              (
-                n100,
-                (
-                  n101,
-                  (
-                    n102,
-                    (
-                      n105,
-                      (
-                        n108,
-                        (
-                          n109,
-                          (
-                            n111,
-                            (n112, (n114, (n115, (n116, (n117, (n118, (n119, (n121, tt)))))))),
-                          ),
-                        ),
-                      ),
-                    ),
-                  ),
-                ),
-              ),
-            ),
-          ),
-        ),
-      ),
-    ))
+returns-in_default c = sym (none_reserved c.args.first (search (tests, rules)))

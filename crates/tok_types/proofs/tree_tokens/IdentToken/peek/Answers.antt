@@ -11,9 +11,10 @@ returns-in-None-clause-sees c = ident_seen (place_of c.args.cursor) _ (search ru
 pub returns-in-Some-clause-peeks : goal.returns-in-Some-clause-peeks
 returns-in-Some-clause-peeks c =
     let i = c.in-Some.ident.now in
-    c.accept_as_ident.ensures ∙ ap accept_as_ident c.as_str.ensures
-    ∙ sym (word_wanted accept_as_ident (place_of c.args.cursor) i.text i.span
-    (place_of c.in-Some.field-0-1) c.in-Some.ensures)
+    let wanted =
+    word_wanted accept_as_ident (place_of c.args.cursor) i.text i.span
+    (place_of c.in-Some.field-0-1) c.in-Some.ensures in
+    cc
 
 pub returns-in-Some-clause-sees : goal.returns-in-Some-clause-sees
 returns-in-Some-clause-sees c =
