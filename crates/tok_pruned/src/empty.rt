@@ -23,6 +23,7 @@ use tok_core::{Delimiter, Group, TokenStream, TokenTree, is_filled};
 /// ```rust
 /// let stream = prune(alloc, lex_marked(alloc, 0, "« » f(« » a)")?)?;
 /// ```
+#[tactic(auto, using(crate::proofs::Pruning::pruned_filled))]
 pub fn prune(alloc: Global, stream: TokenStream) -> Result<TokenStream, AllocError>
     ensures prunes { IfOk result (λ f. f ≡ pruned stream) }
     ensures succeeds { filled stream ≡ true → IsOk result }

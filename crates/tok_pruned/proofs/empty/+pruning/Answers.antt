@@ -3,7 +3,6 @@ use Rattle.std.specs.Vec.Iter.{into_iter_items}
 use Rattle.tok_core.specs.Forest.{group, no_trees, tree}
 use Rattle.tok_core.specs.Seen.{group_of, tree_of, trees_of}
 use Rattle.tok_core.specs.Weight.{weight}
-use Rattle.tok_leaves.specs.Spans.{bounds_delimiter}
 use Rattle.tok_pruned.specs.Pruned.{pruned}
 use Rattle.tok_pruned.proofs.Streams.{all_pruned, goes_off, none_left, stays_on, step_pruned}
 use Rattle.tok_pruned.proofs.empty.+pruning.Goals as goal
@@ -37,26 +36,9 @@ prune_tree-returns-in_ok-append-in-Group t c =
     let f = c.into_stream.result in
     let inside = c.in_ok-inside-in-Group.inside in
     let made : group_of c.new.result ≡ group d inside s = search rules in
-    let was : tree_of c.args.next ≡ group d f s =
-    ap tree_of c.in-Group.is
-    ∙ sym (ap (λ e. group e f s) c.delimiter-delimiter.ensures
-    ∙ ap (λ x. group (bounds_delimiter g.bounds) x s) c.into_stream.ensures
-    ∙ ap (λ x. group (bounds_delimiter g.bounds) g.stream x) c.span-span.ensures) in
+    let was : tree_of c.args.next ≡ group d f s = grind arith in
     stays_on c.args.kept.now c.append-then-stays.new.self inside f (tree_of c.args.next)
-    (group_of c.new.result) d s (search rules) made (search rules) was
-    (sym c.stays.ensures ∙ c.if-stays.true)
+    (group_of c.new.result) d s (search rules) made (search rules) was (search rules)
 
 pub prune_tree-returns-else-stays : goal.prune_tree-returns-else-stays
-prune_tree-returns-else-stays t c =
-    let g = c.in-Group.group in
-    let d = c.delimiter-delimiter.result in
-    let s = c.span-span.result in
-    let f = c.into_stream.result in
-    let inside = c.in_ok-inside-in-Group.inside in
-    let was : tree_of c.args.next ≡ group d f s =
-    ap tree_of c.in-Group.is
-    ∙ sym (ap (λ e. group e f s) c.delimiter-delimiter.ensures
-    ∙ ap (λ x. group (bounds_delimiter g.bounds) x s) c.into_stream.ensures
-    ∙ ap (λ x. group (bounds_delimiter g.bounds) g.stream x) c.span-span.ensures) in
-    goes_off c.args.kept.now inside f (tree_of c.args.next) d s (search rules) was
-    (sym c.stays.ensures ∙ c.if-stays.false)
+prune_tree-returns-else-stays t c = grind (arith, goes_off)
