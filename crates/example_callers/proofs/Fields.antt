@@ -1,5 +1,5 @@
 -- Fields, part by part.
-use Rattle.std.proofs.Common.{◌≡◌, ◌∙◌, ap, sym, subst, inl, inr, ℕ}
+use Rattle.std.proofs.Common.{◌≡◌, ◌∙◌, ap, sym, subst, inl, inr, ℕ, arith}
 use Rattle.std.proofs.Common.{true, List, [], ◌∷◌, ◌++◌, Some, None, Ok, Err}
 use Rattle.std.specs.Prelude.{codes}
 use Rattle.tok_leaves.specs.declared.ident.Ident.{Ident}
@@ -22,7 +22,7 @@ use Rattle.syn_parse.specs.Progress.{PunctuationTypeParses}
 use Rattle.syn_parse.specs.Reads.{TreesRead}
 use Rattle.syn_parse.specs.State.{State, moved}
 use Rattle.syn_parse.specs.ErrorWords.{punctuation_message}
-use Rattle.syn_parse.proofs.Reading.{reads-value, reads_refused, reads-memory}
+use Rattle.syn_parse.proofs.Reading.{reads-value, reads-memory}
 use Rattle.syn_parse.specs.TokenNames.{Colon, Token}
 use Rattle.example_callers.specs.declared.streams.Field.{Field}
 use Rattle.example_callers.specs.Fields.{FieldParses, IsField}
@@ -48,7 +48,7 @@ field_leads R trans names colons s t x h =
     let w = was_read IsField (field_message s) s t (read_field p) x h in
     let start = then_leads R trans p (read_name p) read_colon (names p) colons in
     let field = then_leads R trans p (read_start p) read_name start names in
-    subst (R p) (ap (λ z. z.place) (sym w.3)) (field w.0.0 w.0.1 w.1)
+    rw w.3 (field w.0.0 w.0.1 w.1)
 
 pub field_keeps_scope :
     ReadsKeepScope → (s t : State) (x : Field) → FieldParses s (Ok x) t →
@@ -76,9 +76,7 @@ module _ (s : State) where
   is_refused :
       (words : Message) (f : Fault) (t : State) → read_field s.place ≡ None →
       field_message s ≡ words → Refuses words f → FieldParses s (Err f) t
-  is_refused words f t missing e r =
-      reads_refused IsField (field_message s) s (read_field s.place) f missing
-      (subst (λ x. Refuses x f) (sym e) r)
+  is_refused words f t missing e r = grind arith
 
   is_memory : (f : Fault) (t : State) → IsMemory f → FieldParses s (Err f) t
   is_memory f t m = reads-memory IsField (field_message s) s (read_field s.place) f m
@@ -96,68 +94,55 @@ module _ (s : State) where
   pub without_colon :
       (t u : State) (name : Ident) (f : Fault) → IdentParses s (Ok name) t →
       PunctuationTypeParses 6 1 t (Err f) u → FieldParses s (Err f) u
-  without_colon t u name f h k =
-      let first = was_read IsIdent (name_message s) s t (read_name s.place) name h in
-      let words = punctuation_message (codes ":") t in
-      let left = not_at_once (AreSpansOf 6) words t u (read_colon t.place) f k in
-      let gone : read_colon first.0.1 ≡ None =
-      ap (λ z. read_colon z.place) (sym first.3) ∙ left.0 in
-      is_refused words f u
-      (ap (λ x. read_then x read_name)
-      (then_none (read_name s.place) read_colon first.0 first.1 gone))
-      (ap message_by first.1 ∙ ap (colon_message (moved first.0.1 s)) gone
-      ∙ ap (punctuation_message (codes ":")) (sym first.3))
-      left.1
+  without_colon t u name f h k = grind (arith, was_read, not_at_once, is_refused, then_none)
 
   pub not_next :
       (e : Error) (t : State) → FieldParses s (Err (Refused e)) t → read_field s.place ≡ None
-  not_next e t h =
-      elim (was_refused IsField (field_message s) s s (read_field s.place) (Refused e) h) [
-        | inl m ↦ absurd m
-        | inr r ↦ r.0
-      ]
+  not_next e t h = grind (arith, was_refused)
 
   -- a field of which the name and the colon were read
   module _
       (t u : State) (name : Ident) (colon : Token Colon)
       (h : IdentParses s (Ok name) t) (j : PunctuationTypeParses 6 1 t (Ok colon) u) where
     first : HasRead IsIdent (name_message s) s t (read_name s.place) name
-    first = was_read IsIdent (name_message s) s t (read_name s.place) name h
+    first = grind (arith, was_read)
 
     abbrev missing_colon : Message
     missing_colon = punctuation_message (codes ":") t
 
     second : HasRead (AreSpansOf 6) missing_colon t u (read_colon t.place) colon
-    second = was_at_once (AreSpansOf 6) missing_colon t u (read_colon t.place) colon j
+    second = grind (arith, was_at_once)
 
     colon_read : read_colon first.0.1 ≡ Some second.0
-    colon_read = ap (λ z. read_colon z.place) (sym first.3) ∙ second.1
+    colon_read = grind (arith, first, second)
 
     abbrev start : List Tree × Place
     start = (first.0.0 ++ second.0.0, second.0.1)
 
     start_read : read_start s.place ≡ Some start
-    start_read = then_read (read_name s.place) read_colon first.0 first.1 second.0 colon_read
+    start_read = grind (arith, then_read, first, second, colon_read)
 
     stream : u ≡ moved second.0.1 s
-    stream = second.3 ∙ ap (moved second.0.1) first.3
+    stream = grind (arith, first, second)
 
     kind_read : (x : TreesRead) → read_name u.place ≡ x → read_name start.1 ≡ x
-    kind_read x e = ap (λ z. read_name z.place) (sym stream) ∙ e
+    kind_read x e = grind (arith, stream)
 
     pub without_kind :
         (f : Fault) (w : State) → IdentParses u (Err f) w → FieldParses s (Err f) w
     without_kind f w k =
-        elim (was_refused IsIdent (name_message u) u w (read_name u.place) f k) [
-          | inl m ↦ is_memory f w m
-          | inr r ↦
-              is_refused (name_message u) f w
-              (then_none (read_start s.place) read_name start start_read (kind_read None r.0))
-              (ap message_by first.1
-              ∙ ap (colon_message (moved first.0.1 s)) colon_read
-              ∙ ap name_message (sym stream))
-              r.1
-        ]
+        grind (
+          arith,
+          was_refused,
+          is_memory,
+          is_refused,
+          then_none,
+          start_read,
+          kind_read,
+          first,
+          colon_read,
+          stream,
+        )
 
     pub field_read :
         (w : State) (kind : Ident) → IdentParses u (Ok kind) w →

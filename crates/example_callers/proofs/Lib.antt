@@ -3,7 +3,6 @@ mod Listed
 mod ListTrees
 mod Names
 mod Nested
-mod Outcomes
 mod Parts
 mod SameViews
 mod Text

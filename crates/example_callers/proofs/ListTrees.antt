@@ -14,14 +14,9 @@ module _ {T P : Type 0} (values : T → List (List Tree)) (separators : P → Li
     (value_parses : Call T) (separator_parses : Call P) (peeks : Place → Bool → Type 0)
     (law : ListsHaveTheirTrees values separators value_parses separator_parses peeks)
     (told : StatesTrees value_parses values) (parts : StatesTrees separator_parses separators) where
-  pub trees_if_ok : (s t : State) (r : Result (Punctuated T P) Fault)
+  pub both_if_ok : (s t : State) (r : Result (Punctuated T P) Fault)
       → IsPlainRun terminated value_parses separator_parses s r t
       → IfOk r (λ list. PassesList values separators list s t)
-  trees_if_ok s t (Ok list) run = ((law told parts s t list).0 run).0
-  trees_if_ok s t (Err e) run = tt
-
-  pub end_if_ok : (s t : State) (r : Result (Punctuated T P) Fault)
-      → IsPlainRun terminated value_parses separator_parses s r t
-      → IfOk r (λ _. is_at_end t.place ≡ true)
-  end_if_ok s t (Ok list) run = ((law told parts s t list).0 run).1
-  end_if_ok s t (Err e) run = tt
+      × IfOk r (λ _. is_at_end t.place ≡ true)
+  both_if_ok s t (Ok list) run = (law told parts s t list).0 run
+  both_if_ok s t (Err e) run = (tt, tt)

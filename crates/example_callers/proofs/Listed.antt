@@ -1,13 +1,11 @@
 -- One item, after the call that read it.
-use Rattle.std.proofs.Common.{◌≡◌, ◌∙◌, sym, subst, refl, Bool, true, false, Option, Some, None, Ok}
-use Rattle.std.proofs.Common.{Err}
-use Rattle.std.proofs.lemmas.Bool.{false≢true}
+use Rattle.std.proofs.Common.{◌≡◌, refl, Bool, true, false, Option, Some, None, Ok}
+use Rattle.std.proofs.Common.{Err, arith}
 use Rattle.std.specs.Borrow.{MutBor}
 use Rattle.std.specs.Fn.{FnOnceReturnsAtMut, Once}
 use Rattle.std.specs.Prelude.{Result, IfOk, is_some}
 use Rattle.tok_lexical.specs.declared.delimiter.Delimiter.TheVariants.{Parenthesis}
 use Rattle.tok_leaves.specs.declared.span.DelimSpan.{DelimSpan}
-use Rattle.tok_leaves.specs.Spans.{whole_span}
 use Rattle.tok_buffer.specs.Entry.{Entered, enter}
 use Rattle.tok_buffer.specs.Place.{is_at_end}
 use Rattle.tok_types.specs.declared.delimiter.Visible.{Visible}
@@ -22,8 +20,7 @@ use Rattle.example_callers.specs.Lists.{IsItem, list}
 
 -- what is found nowhere is not there
 pub is_absent : {A : Type 0} (o : Option A) (b : Bool) → b ≡ is_some o → b ≡ false → o ≡ None
-is_absent None b e f = refl
-is_absent (Some x) b e f = absurd (false≢true (sym f ∙ e))
+is_absent o b e f = grind arith
 
 abbrev Mut : Type 0
 Mut = MutBor State × Unit {0}
@@ -40,7 +37,7 @@ module _
   calls = FnOnceReturnsAtMut call f
 
   call_reads : (a : State) (r : Result Items Fault) (b : State) → calls a r b → IsRead r b
-  call_reads a r b c = subst (IsRead r) c.leaves (are c.shown r c.left c.met)
+  call_reads a r b c = grind arith
 
   pub one_list :
       (s t : State) (span : DelimSpan) (items : Items) (paren : Visible 0) → paren.span ≡ span →
@@ -55,8 +52,7 @@ module _
           t ≡ closed end (after_group e s) → IsItem s (item.List paren items) t
       inside e i (Err g) end c same is = absurd same
       inside e i (Ok v) end c same is =
-          subst (IsItem s (item.List paren items)) (sym is)
-          (list s end e paren items i (subst (λ z. whole_span z ≡ e.span) (sym at) same.0) c)
+          rw is (list s end e paren items i (rw at same.0) c)
 
       by :
           (x : Option Entered) → enter Parenthesis s.place ≡ x →

@@ -17,11 +17,11 @@ one_letter c h letter =
     let start = ap (λ b. b || (c == 95)) (is_xid_start-ascii c h ∙ letter) in
     subst IsIdentifier (sym (chars-IsAscii (c ∷ []) (ascii_at c h))) (start, refl)
 
-pub a-identifier : IsIdentifier (chars (codes "a"))
-a-identifier = one_letter 97 (omega arith) refl
+pub a_identifier : IsIdentifier (chars (codes "a"))
+a_identifier = one_letter 97 (omega arith) refl
 
-pub b-identifier : IsIdentifier (chars (codes "b"))
-b-identifier = one_letter 98 (omega arith) refl
+pub b_identifier : IsIdentifier (chars (codes "b"))
+b_identifier = one_letter 98 (omega arith) refl
 
-pub c-identifier : IsIdentifier (chars (codes "c"))
-c-identifier = one_letter 99 (omega arith) refl
+pub c_identifier : IsIdentifier (chars (codes "c"))
+c_identifier = one_letter 99 (omega arith) refl

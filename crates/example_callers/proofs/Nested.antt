@@ -1,5 +1,5 @@
 -- Nested lists of names, entry by entry.
-use Rattle.std.proofs.Common.{◌≡◌, ◌∙◌, ◌+◌, ℕ, ap, sym, subst, refl, inl, inr, arith, true, false}
+use Rattle.std.proofs.Common.{◌≡◌, ◌∙◌, ◌+◌, ℕ, ap, subst, refl, inl, inr, arith, true, false}
 use Rattle.std.proofs.Common.{Option, Some, None, Ok, Err}
 use Rattle.std.specs.Borrow.{MutBor}
 use Rattle.std.specs.Fn.{FnOnceReturnsAtMut, Once}
@@ -17,7 +17,7 @@ use Rattle.syn_parse.specs.Reads.{Call}
 use Rattle.syn_parse.specs.State.{State, after_group, closed, content_of}
 use Rattle.syn_parse.specs.ErrorWords.{delimiter_words, refused_at}
 use Rattle.example_callers.specs.Fields.{name_message, read_name}
-use Rattle.example_callers.specs.Nested.{AreEntries, CountsEntries, CountsEntry, EntriesRefused, IsEntry}
+use Rattle.example_callers.specs.Nested.{AreEntries, CountsEntries, CountsEntry, EntriesRefused}
 use Rattle.example_callers.specs.Nested.{capped, here, later, list, name, neither, none, one_more, within}
 use Rattle.example_callers.proofs.Parts.{was_read}
 
@@ -41,11 +41,7 @@ module _ (start there : State) (count : ℕ) (g : CountsOn start there count) wh
   module _ (more : is_at_end there.place ≡ false) where
     pub entry_refused :
         (f : Fault) (t : State) → CountsEntry there (Err f) t → CountsEntries start (Err f) t
-    entry_refused f t h =
-        elim h [
-          | inl m ↦ inl m
-          | inr r ↦ inr (r.0, g.2.refused r.0 (here there r.0 more r.1), r.2)
-        ]
+    entry_refused f t h = grind (arith, here)
 
     pub entry_on :
         (k : ℕ) (t : State) → CountsEntry there (Ok k) t → CountsOn start t (capped (count + k))
@@ -63,7 +59,7 @@ pub one_name :
     (s t : State) (i : Ident) → IdentParses s (Ok i) t → CountsEntry s (Ok 1) t
 one_name s t i h =
     let r = was_read IsIdent (name_message s) s t (read_name s.place) i h in
-    (1, subst (IsEntry s 1) (sym r.3) (name s r.0.1 r.0.0 r.1), refl)
+    (1, rw r.3 (name s r.0.1 r.0.0 r.1), refl)
 
 abbrev Mut : Type 0
 Mut = MutBor State × Unit {0}
@@ -77,9 +73,7 @@ module _
   calls = FnOnceReturnsAtMut call f
 
   call_counts : (a : State) (r : Result ℕ Fault) (b : State) → calls a r b → CountsEntries a r b
-  call_counts a r b c =
-      subst (λ z. CountsEntries z r b) c.shows
-      (subst (CountsEntries c.shown.now r) c.leaves (are c.shown r c.left c.met))
+  call_counts a r b c = grind arith
 
   module _ (s t : State) (no_name : read_name s.place ≡ None) where
     abbrev message : Message
@@ -101,7 +95,7 @@ module _
         inside e i (Err g) end c same is = absurd same
         inside e i (Ok k) end c same is = (
           c.0,
-          subst (IsEntry s c.0) (sym is) (list s end e c.0 no_name i c.1),
+          rw is (list s end e c.0 no_name i c.1),
           same.1 ∙ c.2,
         )
 
@@ -121,7 +115,7 @@ module _
             SpanWith {R = ℕ} e.span a (Err g) → CountsEntry s (Err g) t
         inside e i (Ok k) end c same = absurd same
         inside e i (Err h) end c same =
-            elim (subst (λ z. CountsEntries (content_of e) (Err z) end) (sym same) c) [
+            elim (rw (← same) at c) [
               | inl m ↦ inl m
               | inr m ↦ inr (m.0, within s e m.0 no_name i m.1, m.2)
             ]

@@ -1,5 +1,5 @@
 -- The text of a list, a pair at a time.
-use Rattle.std.proofs.Common.{◌≡◌, ℕ, List, [], ◌∷◌, ◌++◌, refl, ap, ◌∙◌, append_assoc}
+use Rattle.std.proofs.Common.{◌≡◌, ℕ, List, [], ◌∷◌, ◌++◌, refl, append_assoc}
 use Rattle.std.specs.Prelude.{encode_utf8}
 use Rattle.std.specs.Fmt.{decimal}
 use Rattle.syn_punctuated.specs.declared.pair.Pair.{Pair}
@@ -15,9 +15,7 @@ abbrev pub pairs_text : List (Pair ℕ ℕ) → List ℕ
 pairs_text [] = []
 pairs_text (p ∷ ps) = pair_text p ++ pairs_text ps
 
-pub pairs_text-paired : (xs ys : List ℕ) → pairs_text (paired xs ys) ≡ text_of xs ys
-pairs_text-paired [] ys = refl
-pairs_text-paired (x ∷ xs) [] = ap (λ text. decimal x ++ text) (pairs_text-paired xs [])
-pairs_text-paired (x ∷ xs) (y ∷ ys) =
-    append_assoc (decimal x) (encode_utf8 y) (pairs_text (paired xs ys))
-    ∙ ap (λ text. decimal x ++ (encode_utf8 y ++ text)) (pairs_text-paired xs ys)
+pub text_paired : (xs ys : List ℕ) → pairs_text (paired xs ys) ≡ text_of xs ys
+text_paired [] ys = refl
+text_paired (x ∷ xs) [] = rw (text_paired xs []) refl
+text_paired (x ∷ xs) (y ∷ ys) = rw (append_assoc, text_paired xs ys) refl

@@ -82,6 +82,7 @@ pub fn total(list: &Numbers) -> u32
 }
 
 /// Returns a text that consists of the values and separators of the list, in order.
+#[tactic(auto, using(crate::proofs::Text::text_paired))]
 pub fn written(alloc: Global, list: &Numbers) -> Result<String, AllocError>
     ensures { IfOk result
         (λ text. string_bytes text ≡ text_of (values_of list.now) (separators_of list.now)) }

@@ -60,6 +60,7 @@ fn write_crate(tokens: &mut TokenStream) -> Result<(), AllocError>
 }
 
 /// Appends the tokens `pub (crate)` to `tokens`.
+#[tactic(auto, using(tok_core::proofs::Facts::joined_assoc))]
 pub fn write_restricted(tokens: &mut TokenStream) -> Result<(), AllocError>
     ensures { OnOk result (tokens.new ≡ concat tokens.old
         (tree (leaf (ident (codes "pub") call_site))

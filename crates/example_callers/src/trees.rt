@@ -40,6 +40,7 @@ fn group(delimiter: Delimiter, content: TokenStream) -> TokenTree
 /// Builds the token stream `a (b «c») +=`.
 ///
 /// Returns an error only if an allocation fails.
+#[tactic(auto, using(crate::proofs::Names::a_identifier, crate::proofs::Names::b_identifier, crate::proofs::Names::c_identifier))]
 pub fn by_hand(alloc: Global) -> Result<TokenStream, MakeFault>
     ensures made { IfOk result (λ stream. stream ≡ by_hand) }
     ensures fault { IfErr result (λ fault. fault ≡ MakeFault.Memory) }

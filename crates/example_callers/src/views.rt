@@ -22,6 +22,7 @@ fn is_name_second(cursor: Cursor<'_>) -> bool
 /// Suppose that each invisible group in both buffers contains a visible token, and that the
 /// positions of the cursors differ only in invisible groups. Then both results are equal. They are
 /// equal even if the next token is a lifetime whose name is in an invisible group of its own.
+#[tactic(auto, using(crate::proofs::SameViews::same_seconds))]
 pub fn names_second(left: Cursor<'_>, right: Cursor<'_>) -> (bool, bool)
     ensures left { result.0 ≡ is_name_second (place_of left.entry) }
     ensures right { result.1 ≡ is_name_second (place_of right.entry) }

@@ -1,7 +1,5 @@
-use Rattle.std.proofs.Common.{arith, ap, refl}
+use Rattle.std.proofs.Common.{arith}
 use Rattle.tok_lexical.specs.declared.delimiter.Delimiter.TheVariants.{Parenthesis}
-use Rattle.syn_parse.specs.State.{State}
-use Rattle.tok_buffer.specs.Progress.{remaining}
 use Rattle.tok_buffer.specs.Entry.{enter}
 use Rattle.example_callers.specs.Lists.{name}
 use Rattle.example_callers.proofs.Listed.{is_absent, one_list}
@@ -9,15 +7,8 @@ use Rattle.syn_parse.specs.Reads.{does}
 use Rattle.example_callers.proofs.lists.+parsing.Goals as goal
 
 pub parse_item-within-requires : goal.parse_item-within-requires
-parse_item-within-requires t c κs = (
-  (refl, tt),
-  λ e h p q. omega (
-    arith,
-    (c.entries_go_on.ensures.groups Parenthesis).inwards
-        c.args.input.now.place e h,
-    ap (λ (s : State). remaining s.place) q,
-  ),
-)
+parse_item-within-requires t c κs =
+    let inwards = (c.entries_go_on.ensures.groups Parenthesis).inwards in grind arith
 
 pub parse_item-returns-in_ok-parse : goal.parse_item-returns-in_ok-parse
 parse_item-returns-in_ok-parse t c =
@@ -29,5 +20,4 @@ parse_item-returns-in_ok-parse t c =
 pub parse_item-returns-in_ok-span : goal.parse_item-returns-in_ok-span
 parse_item-returns-in_ok-span t c =
     one_list _ _ (λ a r b h. h) c.args.input.now c.within.new.self c.in_ok-span.span
-    c.in_ok-span.items
-    c.new.result c.new.ensures (does _ _ _ _ c.in_ok-span.ensures.runs)
+    c.in_ok-span.items c.new.result c.new.ensures (does _ _ _ _ c.in_ok-span.ensures.runs)

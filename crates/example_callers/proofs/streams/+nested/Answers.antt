@@ -1,13 +1,12 @@
-use Rattle.std.proofs.Common.{◌≡◌, ◌∙◌, ◌<◌, ap, refl, arith, rules, false, None}
+use Rattle.std.proofs.Common.{◌≡◌, arith, rules, false, None}
 use Rattle.tok_lexical.specs.declared.delimiter.Delimiter.TheVariants.{Parenthesis}
 use Rattle.tok_buffer.specs.Place.{is_at_end}
-use Rattle.tok_buffer.specs.Progress.{remaining}
 use Rattle.example_callers.specs.Fields.{read_name}
 use Rattle.example_callers.specs.Nested.{CountsEntries, CountsEntry}
 use Rattle.example_callers.proofs.Nested.{entries_end, entry_on, entry_refused, no_list, one_list}
 use Rattle.example_callers.proofs.Nested.{one_name}
 use Rattle.example_callers.proofs.Parts.{at_exit}
-use Rattle.syn_parse.specs.Reads.{does}
+use Rattle.syn_parse.specs.Reads.{Does, does}
 use Rattle.example_callers.proofs.streams.+nested.Goals as goal
 
 pub count_all-returns-in_err-count_names : goal.count_all-returns-in_err-count_names
@@ -22,18 +21,11 @@ count_all-returns-in_err-count_names t c =
     c.in_err-count_names.ensures.counts)
 
 pub count_all-returns : goal.count_all-returns
-count_all-returns t c = entries_end c.args.input.now c.loop-input.input c.loop-input.count
-    c.loop-input.invariant.1 (search rules)
+count_all-returns t c = grind (arith, entries_end)
 
 pub count_names-within-requires : goal.count_names-within-requires
-count_names-within-requires t c κs = (
-  (refl, tt),
-  λ e entered p is.
-      let content : p.now.place ≡ e.content = ap (λ s. s.place) is in
-      let less : remaining e.content < remaining c.args.input.now.place =
-      (c.entries_go_on.ensures.groups Parenthesis).inwards _ e entered in
-      (rw content (omega (arith, less)), tt),
-)
+count_names-within-requires t c κs =
+    let inwards = (c.entries_go_on.ensures.groups Parenthesis).inwards in grind arith
 
 pub count_names-returns-in_err-count-clause-counts :
     goal.count_names-returns-in_err-count-clause-counts
@@ -66,19 +58,16 @@ count_names-returns-in_ok-count-clause-counts t c =
 
 pub count_names-returns-in_ok-count-clause-lowers :
     goal.count_names-returns-in_ok-count-clause-lowers
+unfolding Does
 count_names-returns-in_ok-count-clause-lowers t c =
-    let ended = c.in_ok-count.ensures.after in
-    rw ended.2 ((c.entries_go_on.ensures.groups Parenthesis).lowers _ ended.0 ended.1)
+    let lowers = (c.entries_go_on.ensures.groups Parenthesis).lowers in grind arith
 
 pub count_all-loop-input-preserved : goal.count_all-loop-input-preserved
 count_all-loop-input-preserved t c =
     let there = c.loop-input in
     let after = c.count_names.new.input in
     let more : is_at_end there.input.place ≡ false = search rules in
-    let so_far = there.invariant.0 in
-    let less : remaining after.place < remaining there.input.place =
-    c.in_ok-count_names.ensures.lowers in
     let on =
     entry_on c.args.input.now there.input there.count there.invariant.1 more
     c.in_ok-count_names.field-0 after c.in_ok-count_names.ensures.counts in
-    (omega (arith, less, so_far), (on.0, c.saturating_add-count.ensures ∙ on.1, on.2))
+    search (rules, arith)
