@@ -16,8 +16,7 @@ use Rattle.syn_tokens_c.specs.declared.flat.FlatArgument.{FlatArgument}
 set_first : (xs ys : List FlatArgument) (x y : FlatArgument)
     → set ((xs ++ x ∷ []) ++ ys) (length xs) y ≡ xs ++ y ∷ ys
 set_first xs ys x y =
-    ap (λ w. set w (length xs) y) (append_assoc xs (x ∷ []) ys)
-    ∙ set_at xs x ys y (length xs) refl
+    rw (append_assoc xs (x ∷ []) ys) (set_at xs x ys y (length xs) refl)
 
 -- ys are the arguments xs, some x, and those inside; z is x with the count of those
 pub list_lies : (xs bs ys inner : List FlatArgument) (x z : FlatArgument) (name span : Span)

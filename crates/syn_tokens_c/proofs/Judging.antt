@@ -1,7 +1,6 @@
 -- What the reader of arguments returns for entries.
-use Rattle.std.proofs.Common.{◌≡◌, ℕ, List, Ok, Err, inl, inr, subst, sym, true}
+use Rattle.std.proofs.Common.{arith, ◌≡◌, ℕ, List, Err, inl, inr, true}
 use Rattle.std.specs.Prelude.{Result}
-use Rattle.std.specs.declared.alloc.AllocError.{AllocError}
 use Rattle.tok_leaves.specs.Spans.{call_site}
 use Rattle.tok_core.specs.Erase.{erase}
 use Rattle.tok_core.specs.Filled.{filled}
@@ -11,37 +10,25 @@ use Rattle.syn_parse.specs.Reads.{Call}
 use Rattle.syn_parse.specs.State.{State}
 use Rattle.syn_parse.specs.Takings.{Keeps}
 use Rattle.syn_parse.specs.declared.fault.Fault.{Fault}
-use Rattle.syn_parse.specs.declared.fault.Fault.TheVariants as fault
 use Rattle.arguments.proofs.Outcomes.{parses, says}
 use Rattle.arguments.specs.Reading.{arguments}
 use Rattle.arguments.specs.Results.{Parses, SaysWhy}
 use Rattle.arguments.specs.Values.{Arguments}
-use Rattle.entry_outcomes.specs.Answers.{Returns, Writes}
 use Rattle.entry_outcomes.specs.Parsed.{IsStopped, ParsesEntries, result_of}
-use Rattle.entry_outcomes.specs.declared.answer.Answer.{Answer}
-use Rattle.entry_outcomes.specs.declared.outcome.Message.{Message}
-use Rattle.entry_outcomes.specs.declared.outcome.Outcome.{Outcome}
 use Rattle.entry_outcomes.specs.declared.parse.EntriesFault.{EntriesFault}
-use Rattle.entry_outcomes.specs.declared.parse.EntriesFault.TheVariants.{Malformed, Rejected, Memory}
 use Rattle.tok_entries.specs.Denotes.{Denotes}
 use Rattle.tok_entries.specs.declared.entry.Entry.{Entry}
 use Rattle.tok_pruned.specs.Pruned.{pruned}
-use Rattle.syn_tokens_c.specs.Judged.{AnswersArguments, IsJudged, ParsesArguments}
-use Rattle.syn_tokens_c.specs.declared.flat.FlatArgument.{FlatArgument}
+use Rattle.syn_tokens_c.specs.Judged.{ParsesArguments}
 
 module _ (es : List Entry) (bs : List ℕ) where
   of_parsed : (f : Forest) (parsed : Result Arguments Fault) → Denotes es bs f
       → Parses (erase f) parsed → SaysWhy (pruned f) parsed
       → ParsesArguments es bs (result_of parsed)
-  of_parsed f (Ok list) d p s = (f, d, p)
-  of_parsed f (Err (fault.Refused e)) d (inl m) s = absurd m
-  of_parsed f (Err (fault.Refused e)) d (inr n) s = (f, d, n, s)
-  of_parsed f (Err (fault.Memory e)) d p s = tt
+  of_parsed f parsed d p s = grind arith
 
   of_stopped : (stop : EntriesFault) → IsStopped es bs stop → ParsesArguments es bs (Err stop)
-  of_stopped (Malformed refusal entry) h = h
-  of_stopped (Rejected e) h = absurd h
-  of_stopped Memory h = h
+  of_stopped stop h = grind arith
 
   -- a reader that takes arguments of each stream, over entries
   pub arguments_of_entries : (calls : Call Arguments)
@@ -52,17 +39,7 @@ module _ (es : List Entry) (bs : List ℕ) where
   arguments_of_entries calls each fills result (inl (f, parsed, d, whole, same)) =
       let taken =
       parser_keeps arguments (pruned f) call_site calls each parsed whole (fills f).1 in
-      let p = subst (λ trees. Parses trees parsed) (fills f).0 (parses (pruned f) parsed taken) in
+      let p = rw (fills f).0 at (parses (pruned f) parsed taken) in
       let s = says (pruned f) parsed (fills f).1 taken in
-      subst (ParsesArguments es bs) (sym same) (of_parsed f parsed d p s)
-  arguments_of_entries calls each fills result (inr (stop, h, same)) =
-      subst (ParsesArguments es bs) (sym same) (of_stopped stop h)
-
-  -- an answer is written
-  pub judged : (answer : Result (Answer FlatArgument) AllocError) (o : Outcome)
-      (old new : List FlatArgument) (before after : List Message) (from to : List ℕ)
-      → AnswersArguments es bs answer → Writes answer o old new before after from to
-      → IsJudged es bs o old new before after from to
-  judged (Ok a) o old new before after from to (result, p, same) w =
-      inl (result, p, subst (λ g. Returns g o old new before after from to) same w)
-  judged (Err e) o old new before after from to h w = inr w
+      rw same (of_parsed f parsed d p s)
+  arguments_of_entries calls each fills result (inr (stop, h, same)) = rw same (of_stopped stop h)

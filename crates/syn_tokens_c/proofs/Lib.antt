@@ -1,9 +1,6 @@
 mod Flattening
 mod Handles
 mod Judging
-mod Leading
 mod Lexing
-mod Literals
 mod Loosened
 mod Opening
-mod Reporting

@@ -1,5 +1,5 @@
 -- What is handed out of an answer.
-use Rattle.std.proofs.Common.{◌≡◌, ◌⊎◌, Ok, Err, inr, subst, sym}
+use Rattle.std.proofs.Common.{◌≡◌, ◌⊎◌, Ok, Err, inr}
 use Rattle.std.specs.Prelude.{Result, IfOk}
 use Rattle.std.specs.declared.alloc.AllocError.{AllocError}
 use Rattle.tok_core.specs.declared.lexer.error.LexFault.{LexFault}
@@ -16,7 +16,7 @@ use Rattle.syn_tokens_c.specs.declared.read.Answer.{Answer as Made}
 handed : (result : Result Made AllocError) (a : Answer) (o : Opened) (h : Handle)
     → IfOk result (λ made. answered made ≡ a) → HandsAnswer result o h
     → Hands a o h ⊎ HandsNothing 3 o h
-handed (Ok made) a o h e is = subst (λ b. Hands b o h ⊎ HandsNothing 3 o h) e is
+handed (Ok made) a o h e is = rw (← e) is
 handed (Err _) a o h e is = inr is
 
 -- the answer of entries and texts
@@ -24,8 +24,7 @@ pub handed_lexed : (lexed : Result LexedEntries LexFault) (w : LexedEntries)
     (result : Result Made AllocError) (o : Opened) (h : Handle) → lexed ≡ Ok w
     → IfOk result (λ made. answered made ≡ lexed_answer w) → HandsAnswer result o h
     → HandsOver lexed_answer lexed o h
-handed_lexed lexed w result o h e made is =
-    subst (λ r. HandsOver lexed_answer r o h) (sym e) (handed result (lexed_answer w) o h made is)
+handed_lexed lexed w result o h e made is = rw e (handed result (lexed_answer w) o h made is)
 
 -- the answer of an error
 pub handed_error : (lexed : Result LexedEntries LexFault) (e : LexError)
@@ -33,5 +32,4 @@ pub handed_error : (lexed : Result LexedEntries LexFault) (e : LexError)
     → IfOk result (λ made. answered made ≡ refused (Refused e)) → HandsAnswer result o h
     → HandsOver lexed_answer lexed o h
 handed_error lexed e result o h is made hands =
-    subst (λ r. HandsOver lexed_answer r o h) (sym is)
-    (handed result (refused (Refused e)) o h made hands)
+    rw is (handed result (refused (Refused e)) o h made hands)

@@ -59,6 +59,7 @@ fn push_all(flats: &mut Vec<FlatArgument>, list: &Arguments) -> Result<(), Alloc
 
 // Appends an argument, and after it those inside it.
 #[cycle(flatten)]
+#[tactic(auto, using(crate::proofs::Flattening::form_of_list, crate::proofs::Flattening::list_lies))]
 fn push_one(flats: &mut Vec<FlatArgument>, argument: &Argument) -> Result<(), AllocError>
     ensures { OnOk result
         (flats.new.items ≡ flats.old.items ++ spec.flat (argument_form argument.now)) }

@@ -130,6 +130,7 @@ fn lex_by(alloc: Global, rules: Rules, text: &str) -> Result<LexedEntries, LexFa
 ///
 /// If `text` is not UTF-8, if there is no such edition, or if an allocation fails, `handle` holds
 /// no memory after the call.
+#[tactic(auto, using(crate::proofs::Lexing::opened))]
 #[unsafe(no_mangle)]
 pub extern "C" fn syn_tokens_open(
     alloc: Global,
