@@ -90,8 +90,8 @@ module _ {U I X Y : Type 0} (becomes : U → I → Type 0)
     (steps : I → Option (Pair X Y) → I → Type 0) where
   -- the pairs taken are those before one at which a fault stopped: `AfterEnd` if and only if they
   -- end bare
-  abbrev pub StopsAt : List (Pair X Y) → I → PairsFault → Type 0
-  StopsAt taken rest fault = GoesOn steps rest × ((fault ≡ AfterEnd) ↔ EndsBare taken)
+  abbrev pub StopsAtPair : List (Pair X Y) → I → PairsFault → Type 0
+  StopsAtPair taken rest fault = GoesOn steps rest × ((fault ≡ AfterEnd) ↔ EndsBare taken)
 
   -- pairs that came of the iterator went after old: all of them, or those before one that follows
   -- a bare value, or those before one that found no memory
@@ -103,7 +103,7 @@ module _ {U I X Y : Type 0} (becomes : U → I → Type 0)
     pub starts : becomes pairs first
     pub yields : Yields steps first taken rest
     pub adds : AddsPairs old taken new
-    pub ends : MatchResult result (λ _. IsDone steps rest) (StopsAt taken rest)
+    pub ends : MatchResult result (λ _. IsDone steps rest) (StopsAtPair taken rest)
 
   -- pairs are appended after old with a default separator after its bare last value; if the
   -- allocation of that separator fails, old stays
@@ -134,4 +134,4 @@ module _ {U I X Y : Type 0} (becomes : U → I → Type 0)
     pub starts : becomes pairs first
     pub yields : Yields steps first taken rest
     pub are_pairs : IsPairs taken
-    pub stops : StopsAt taken rest fault
+    pub stops : StopsAtPair taken rest fault

@@ -35,17 +35,17 @@ module _ (stream made : ℕ) where
 
   -- on a fork of the stream: the fork has the number that the next stream had, and each stream that
   -- the commands make one more
-  abbrev pub on_fork : ℕ → ℕ
-  on_fork n = if n == stream then made else n + 1
+  abbrev pub number_on_fork : ℕ → ℕ
+  number_on_fork n = if n == stream then made else n + 1
 
   -- the action, with the number of each stream that it names shifted by the fork
   abbrev pub action_on_fork : Action → Action
-  action_on_fork (advance f) = advance (on_fork f)
+  action_on_fork (advance f) = advance (number_on_fork f)
   action_on_fork a = a
 
   -- the command, with the numbers of its streams shifted by the fork
   abbrev pub command_on_fork : Command → Command
-  command_on_fork c = on (on_fork c.stream) (action_on_fork c.action)
+  command_on_fork c = on (number_on_fork c.stream) (action_on_fork c.action)
 
 -- an answer in which the number of a new stream is one more
 abbrev pub answer_on_fork : Answer → Answer
@@ -75,12 +75,12 @@ module _ (st : AllStreams) (stream : ℕ) (commands : List Command) where
       same_scope (stream_at tried stream).place (stream_at tried (length st)).place ≡ true
 
   -- the stream advances to the fork
-  abbrev pub taken : Stepped
-  taken = step (on stream (advance (length st))) tried
+  abbrev pub advance_to_fork : Stepped
+  advance_to_fork = step (on stream (advance (length st))) tried
 
   -- the stream, once the contents that the commands made from it and left open are closed
-  abbrev pub closed : Option Stream
-  closed =
+  abbrev pub closed_stream : Option Stream
+  closed_stream =
       option_map (recording (left_from stream (length st) (drop (length st) direct)))
       (slice_get direct stream)
 
@@ -98,9 +98,9 @@ module _ (st : AllStreams) (stream : ℕ) (commands : List Command) where
         lines_from (step (on stream fork) st).state
         (map (command_on_fork stream (length st)) commands)
         ≡ map line_on_fork (lines_from st commands)
-    pub done : InScope → taken.answer ≡ done
-    pub stream_after : InScope → slice_get taken.state stream ≡ closed
-    pub if_closed : ClosesAll → closed ≡ slice_get direct stream
+    pub done : InScope → advance_to_fork.answer ≡ done
+    pub stream_after : InScope → slice_get advance_to_fork.state stream ≡ closed_stream
+    pub if_closed : ClosesAll → closed_stream ≡ slice_get direct stream
 
 -- self-contained commands on a fork, and then `advance`, equal the commands on the stream
 abbrev pub ForksFollowCommands : Type 0

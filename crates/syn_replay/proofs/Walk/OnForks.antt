@@ -22,7 +22,7 @@ use Rattle.syn_replay.specs.Commands as commands
 use Rattle.syn_replay.specs.Commands.{Action, Command, StreamRead, listed_to, looked}
 use Rattle.syn_replay.specs.Commands.{read_answer}
 use Rattle.syn_replay.specs.Forks.{is_own, is_own_action, is_own_command, is_self_contained}
-use Rattle.syn_replay.specs.Forks.{on_fork, command_on_fork, answer_on_fork, line_on_fork}
+use Rattle.syn_replay.specs.Forks.{number_on_fork, command_on_fork, answer_on_fork, line_on_fork}
 use Rattle.syn_replay.specs.Forks.{IsFollowed, ForksFollowCommands}
 use Rattle.syn_replay.specs.Kinds.{Look, display, peek}
 use Rattle.syn_replay.specs.Reports as reports
@@ -83,7 +83,7 @@ module _ (front : AllStreams) (k : ℕ) (is_open : is_open_at front k ≡ true) 
   s0 = stream_at front k
 
   abbrev on : ℕ → ℕ
-  on n = on_fork k made n
+  on n = number_on_fork k made n
 
   abbrev kind_on : StreamKind → StreamKind
   kind_on outermost = outermost

@@ -17,7 +17,7 @@ use Rattle.syn_replay.specs.Meanings.{IsPlain, line_of, verdict_of}
 use Rattle.syn_replay.specs.Reports as reports
 use Rattle.syn_replay.specs.Reports.{Report}
 use Rattle.syn_replay.specs.ReportText.{as_line, line_text, lines_text, report_text, verdict_text}
-use Rattle.syn_replay.specs.Session.Receivers.{GoesOn, KeepsLine, Writes}
+use Rattle.syn_replay.specs.Session.Receivers.{Compares, KeepsLine, WritesLine}
 use Rattle.syn_replay.specs.Session.State.{AllStreams, first_state}
 use Rattle.syn_replay.specs.Session.Step.{step}
 use Rattle.syn_replay.specs.Session.Promises.{ArePlain, AreReceived, IsLine}
@@ -72,7 +72,7 @@ lines_kept st (c ∷ cs) before after (l, next, is, one, kept, rest) plain =
 module _ {W : Type 0} (took : W → List ℕ → W → Type 0) where
   -- lines that are written
   pub lines_written : (st : AllStreams) (cs : List Command) (f g : Formatter W)
-      → AreReceived (Writes took) st cs f g → IsPlainFormatter f
+      → AreReceived (WritesLine took) st cs f g → IsPlainFormatter f
       → HasWritten took f (lines_text (lines_from st (map command_of cs))) g
   lines_written st [] f g e plain =
       rw e (record { wrote = writes_in_calls_nil took _; plain = plain })
@@ -95,7 +95,7 @@ module _ {W : Type 0} (took : W → List ℕ → W → Type 0) where
     pub agree : (after.agree ≡ true) ↔ ((before.agree ≡ true) × LinesAgree ours theirs)
 
   one_more : (c : Command) (ours : Line) (before next after : Pair W)
-      (on : GoesOn took before c ours next) (l k : reports.Line) (ls ks : List reports.Line)
+      (on : Compares took before c ours next) (l k : reports.Line) (ls ks : List reports.Line)
       (end : AllStreams) → line_of ours ≡ l → line_of on.theirs ≡ k → AreBoth ls ks end next after
       → AreBoth (l ∷ ls) (k ∷ ks) end before after
   one_more c ours before next after on l k ls ks end is same both =
@@ -117,7 +117,7 @@ module _ {W : Type 0} (took : W → List ℕ → W → Type 0) where
       })
 
   pub lines_of_both : (st : AllStreams) (cs : List Command) (before after : Pair W)
-      → AreReceived (GoesOn took) st cs before after
+      → AreReceived (Compares took) st cs before after
       → AreBoth (lines_from st (map command_of cs))
       (lines_from (state_of before.other) (map command_of cs))
       (last_state (state_of before.other) (map command_of cs)) before after

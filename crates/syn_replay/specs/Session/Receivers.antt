@@ -19,16 +19,16 @@ KeepsLine before c l after = after.items ≡ before.items ++ l ∷ []
 
 module _ {W : Type 0} (took : W → List ℕ → W → Type 0) where
   -- the line and its line feed are written
-  abbrev pub Writes : Formatter W → Command → Line → Formatter W → Type 0
-  Writes before c l after =
+  abbrev pub WritesLine : Formatter W → Command → Line → Formatter W → Type 0
+  WritesLine before c l after =
       IsPlainFormatter before → HasWritten took before (as_line (line_text (line_of l))) after
 
   -- The other replay goes on by the command, and both lines are written. All lines agree if and
   -- only if the lines before agree and the answers of these two agree.
-  pub record GoesOn (before : Pair W) (c : Command) (ours : Line) (after : Pair W) : Type 0 where
+  pub record Compares (before : Pair W) (c : Command) (ours : Line) (after : Pair W) : Type 0 where
     pub theirs : Line
     pub is_line : IsLine theirs (state_of after.other) (state_of before.other) (command_of c)
-    pub left : Writes before.left c ours after.left
-    pub right : Writes before.right c theirs after.right
+    pub left : WritesLine before.left c ours after.left
+    pub right : WritesLine before.right c theirs after.right
     pub agree : (after.agree ≡ true)
         ↔ ((before.agree ≡ true) × AnswersAgree (line_of ours).answer (line_of theirs).answer)

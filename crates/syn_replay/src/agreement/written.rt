@@ -54,9 +54,9 @@ struct Pair<'a, W> {
 
 // Runs the command on the other side, compares the lines, and writes both.
 impl<'a, W: Write> Receiver for Pair<'a, W> {
-    ghost use Rattle.syn_replay.specs.Session.Receivers.{GoesOn};
+    ghost use Rattle.syn_replay.specs.Session.Receivers.{Compares};
 
-    ghost receives = { GoesOn W.write_str_gives };
+    ghost receives = { Compares W.write_str_gives };
 
     fn receive(&mut self, command: &Command, ours: Line) -> Result<(), AllocError> {
         let theirs = line(&mut self.other, command)?;

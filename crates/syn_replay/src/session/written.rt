@@ -21,9 +21,9 @@ use tok_buffer::TokenBuffer;
 
 /// Writes each line, and then a line feed.
 impl<W: Write> Receiver for Formatter<W> {
-    ghost use Rattle.syn_replay.specs.Session.Receivers.{Writes};
+    ghost use Rattle.syn_replay.specs.Session.Receivers.{WritesLine};
 
-    ghost receives = { Writes W.write_str_gives };
+    ghost receives = { WritesLine W.write_str_gives };
 
     fn receive(&mut self, _: &Command, line: Line) -> Result<(), AllocError> {
         push_line(self, &line)
