@@ -1,7 +1,9 @@
 -- Words, cut off one after the other.
-use Rattle.std.proofs.Common.{◌≡◌, ℕ, true, false, eqb, List, []}
-use Rattle.std.proofs.Common.{◌∷◌, length, refl, rules}
+use Rattle.std.proofs.Common.{◌≡◌, ◌≤◌, ◌+◌, ℕ, true, false, eqb, not, List, []}
+use Rattle.std.proofs.Common.{◌∷◌, length, refl, rules, arith}
 use Rattle.std.proofs.lemmas.Bool.{false_from_ne_true}
+use Rattle.std.proofs.lemmas.List.Splits.{length-slice_split}
+use Rattle.std.proofs.lemmas.List.Sums.{count_by-le-length, length-filter}
 use Rattle.std.proofs.lemmas.Slice.Eq.{bytes_eq-Decides}
 use Rattle.std.specs.List.{slice_split}
 use Rattle.std.specs.Prelude.{bytes_eq}
@@ -31,3 +33,15 @@ words_skip line front back h e = rw (h, e)
 pub words_last : (line : List ℕ) → slice_split (λ b. eqb b 32) line ≡ line ∷ []
     → is_empty line ≡ false → words line ≡ line ∷ []
 words_last line h e = rw (h, e)
+
+-- a line has at most one word more than bytes
+pub words_few : (line : List ℕ) → length (words line) ≤ length line + 1
+words_few line =
+    let parts = slice_split (λ b. eqb b 32) line in
+    omega (
+      arith,
+      length-filter (λ word. not (is_empty word)) parts,
+      count_by-le-length (λ word. not (is_empty word)) parts,
+      length-slice_split (λ b. eqb b 32) line,
+      count_by-le-length (λ b. eqb b 32) line,
+    )

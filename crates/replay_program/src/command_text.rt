@@ -118,7 +118,7 @@ fn looks(alloc: Global, line: &str) -> Result<Option<Vec<Look>>, AllocError>
     ensures { IfOk result
         (λ o. option_map (λ v. map look_of v.items) o ≡ spec.all_looks (spec.words line.now)) }
 {
-    let mut looks = Vec::with_capacity(alloc, most_words(line))?;
+    let mut looks = Vec::with_capacity(alloc, count_words(line))?;
     let mut rest = line;
     while let Some((word, after)) = first_word(rest) {
         let Some(look) = look(word) else {
@@ -130,14 +130,17 @@ fn looks(alloc: Global, line: &str) -> Result<Option<Vec<Look>>, AllocError>
     Ok(Some(looks))
 }
 
-// Returns how many words a line has if single spaces separate them, and more otherwise. A command
-// keeps the vector of its looks, which so gets room for just them, and in one allocation.
-fn most_words(line: &str) -> usize {
-    let mut words = usize::from(!line.is_empty());
-    for byte in line.bytes() {
-        if byte == b' ' {
-            words = words.saturating_add(1);
-        }
+// Counts the words of a line. A command keeps the vector of its looks, which so gets room for just
+// them, and in one allocation.
+#[tactic(auto, using(crate::proofs::WordCuts::words_few))]
+fn count_words(line: &str) -> usize
+    ensures { result ≡ length (spec.words line.now) }
+{
+    let mut words = 0usize;
+    let mut rest = line;
+    while let Some((_, after)) = first_word(rest) {
+        words += 1;
+        rest = after;
     }
     words
 }

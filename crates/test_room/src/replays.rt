@@ -69,9 +69,9 @@ pub fn bad(alloc: Global, count: usize, bytes: usize) -> Outcome {
     responded(alloc, input.as_str(), 2)
 }
 
-/// Answers `count` lookaheads, each for so many targets.
+/// Answers `count` lookaheads, each for so many targets between blanks.
 pub fn looks(alloc: Global, count: usize, targets: usize) -> Outcome {
-    let looks = times(alloc, " End", targets)?;
+    let looks = times(alloc, "  End  ", targets)?;
     let mut input = times(alloc, "---\n", 1)?;
     for _ in 0..count {
         made(input.push_str("lookahead 0"))?;
