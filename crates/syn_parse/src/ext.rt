@@ -109,6 +109,7 @@ fn any_lifetime(input: ParseStream<'_, '_>) -> Result<Lifetime>
         return Err(input.refuse("expected lifetime"));
     };
     let apostrophe = lifetime.apostrophe;
+    // As in `any_ident`.
     if let Some(ident) = lifetime.ident.copied_if_short() {
         input.move_to(rest);
         return Ok(Lifetime { apostrophe, ident });

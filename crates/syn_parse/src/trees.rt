@@ -72,6 +72,7 @@ fn lifetime(input: ParseStream<'_, '_>) -> Result<Lifetime>
         return Err(input.error(format_args!("unexpected keyword lifetime \"'{name}\"")));
     }
     let apostrophe = lifetime.apostrophe;
+    // As in `ident`.
     if let Some(ident) = lifetime.ident.copied_if_short() {
         input.move_to(rest);
         return Ok(Lifetime { apostrophe, ident });
@@ -107,6 +108,7 @@ fn literal(input: ParseStream<'_, '_>) -> Result<Literal>
     let Some((literal, rest)) = input.cursor().literal() else {
         return Err(input.refuse("expected literal token"));
     };
+    // As in `ident`.
     if let Some(short) = literal.copied_if_short() {
         input.move_to(rest);
         return Ok(short);
