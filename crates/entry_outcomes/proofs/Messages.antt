@@ -1,6 +1,6 @@
 -- The messages of an error, one by one.
-use Rattle.std.proofs.Common.{◌≡◌, ◌+◌, ℕ, List, [], ◌∷◌, ◌++◌, length, refl, ap}
-use Rattle.tok_buffer.specs.Messages.{each_message, first_message_span, first_text, message_span}
+use Rattle.std.proofs.Common.{◌≡◌, ◌+◌, ℕ, List, [], ◌∷◌, ◌++◌, length, refl}
+use Rattle.tok_buffer.specs.Messages.{each_message, first_message_span, first_text}
 use Rattle.tok_buffer.specs.declared.error.Message.{Message as Said}
 use Rattle.entry_outcomes.specs.Answers.{message_as, message_texts, messages}
 use Rattle.entry_outcomes.specs.declared.outcome.Message.{Message}
@@ -20,10 +20,8 @@ texts_each (e ∷ es) = first_text e ++ texts_each es
 -- an error's messages are those of its errors of one message
 pub each_is_all : (at : ℕ) (e : List Said) → messages_each at (each_message e) ≡ messages at e
 each_is_all at [] = refl
-each_is_all at (m ∷ ms) =
-    ap (λ r. message_as (message_span m) at (at + length m.text) ∷ r)
-    (each_is_all (at + length m.text) ms)
+each_is_all at (m ∷ ms) = rw (each_is_all (at + length m.text) ms) refl
 
 pub texts_are_all : (e : List Said) → texts_each (each_message e) ≡ message_texts e
 texts_are_all [] = refl
-texts_are_all (m ∷ ms) = ap (λ r. m.text ++ r) (texts_are_all ms)
+texts_are_all (m ∷ ms) = rw (texts_are_all ms) refl

@@ -46,6 +46,7 @@ impl From<EntryFault> for EntriesFault {
 /// # Requires
 ///
 /// `parser` must be callable on every stream that reads a whole token stream.
+#[tactic(auto, using(crate::proofs::Stops::stops))]
 pub fn parse_entries<T: Drop, F: FnOnce(ParseStream<'_, '_>) -> syn_parse::Result<T>>(
     alloc: Global,
     entries: &[Entry],
