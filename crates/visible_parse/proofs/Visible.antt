@@ -1,5 +1,5 @@
 -- What is stated of a pruned forest holds of the visible trees of the forest.
-use Rattle.std.proofs.Common.{◌≡◌, Ok, Err, ap, subst, sym, ◌∙◌}
+use Rattle.std.proofs.Common.{arith, ◌≡◌, ap}
 use Rattle.std.specs.Prelude.{Result}
 use Rattle.tok_core.specs.Erase.{erase}
 use Rattle.tok_core.specs.Forest.{Forest}
@@ -8,9 +8,9 @@ use Rattle.tok_pruned.specs.Pruned.{pruned}
 use Rattle.tok_pruned.proofs.Pruning.{erase_pruned, filled_pruned}
 use Rattle.syn_parse.proofs.Finished.{results_agree, words_agree}
 use Rattle.syn_parse.proofs.Premises.{given, premise}
-use Rattle.syn_parse.specs.Takes.{Agree, ErrorsAgree, MemoryOr, SaysAll, Taking, TakesAll, found}
+use Rattle.syn_parse.specs.Takes.{Agree, ErrorsAgree, Taking, TakesAll}
 use Rattle.syn_parse.specs.Takings.{KeepsWhole, Takings, stated, untold}
-use Rattle.syn_parse.specs.TreesAhead.{Ahead, all_taken, only_trees, whole}
+use Rattle.syn_parse.specs.TreesAhead.{only_trees, whole}
 use Rattle.syn_parse.specs.declared.fault.Fault.{Fault}
 use Rattle.visible_parse.specs.Visible.{AgreeAs, KeepsVisible, SaySame, TakesVisible}
 
@@ -18,52 +18,17 @@ same_whole : (f : Forest) → whole (pruned f) ≡ whole f
 same_whole f = ap only_trees (erase_pruned f)
 
 module _ {T A : Type 0} (form : T → A) (take : Taking A) where
-  -- what is stated speaks of what is ahead, and of the places of errors in the pruned forest
-  abbrev TakesAhead : Forest → Ahead → Result T Fault → Type 0
-  TakesAhead f a (Ok v) = take a ≡ found (form v) all_taken
-  TakesAhead f a (Err e) =
-      MemoryOr e ((x : A) → take a ≡ found x all_taken → ⊥) × SaysAll f call_site (take a) e
-
-  over : (f : Forest) (a b : Ahead) → a ≡ b → (r : Result T Fault) → TakesAhead f a r
-      → TakesAhead f b r
-  over f a b e r h = subst (λ x. TakesAhead f x r) e h
-
-  -- nothing in a pruned forest is empty, so what an error says is right
-  is_taken : (f : Forest) (r : Result T Fault) → TakesAll form take (pruned f) call_site r
-      → TakesAhead (pruned f) (whole (pruned f)) r
-  is_taken f (Ok v) h = h
-  is_taken f (Err e) h = (h.0, h.1 (filled_pruned f))
-
-  takes_all : (f : Forest) (r : Result T Fault) → TakesAhead (pruned f) (whole (pruned f)) r
-      → TakesAll form take (pruned f) call_site r
-  takes_all f (Ok v) h = h
-  takes_all f (Err e) h = (h.0, λ i. h.1)
-
-  visible_ahead : (f : Forest) (r : Result T Fault) → TakesAhead (pruned f) (whole f) r
-      → TakesVisible form take f r
-  visible_ahead f (Ok v) h = h
-  visible_ahead f (Err e) h = h
-
-  ahead_visible : (f : Forest) (r : Result T Fault) → TakesVisible form take f r
-      → TakesAhead (pruned f) (whole f) r
-  ahead_visible f (Ok v) h = h
-  ahead_visible f (Err e) h = h
-
   takes_visible : (f : Forest) (r : Result T Fault) → TakesAll form take (pruned f) call_site r
       → TakesVisible form take f r
-  takes_visible f r h =
-      visible_ahead f r
-      (over (pruned f) (whole (pruned f)) (whole f) (same_whole f) r (is_taken f r h))
+  takes_visible f r h = grind (arith, same_whole, filled_pruned)
 
   takes_pruned : (f : Forest) (r : Result T Fault) → TakesVisible form take f r
       → TakesAll form take (pruned f) call_site r
-  takes_pruned f r h =
-      takes_all f r
-      (over (pruned f) (whole f) (whole (pruned f)) (sym (same_whole f)) r (ahead_visible f r h))
+  takes_pruned f r h = grind (arith, same_whole)
 
   module _ (f g : Forest) (e : erase f ≡ erase g) (x y : Result T Fault) where
     same_pruned : erase (pruned f) ≡ erase (pruned g)
-    same_pruned = erase_pruned f ∙ e ∙ sym (erase_pruned g)
+    same_pruned = rw (erase_pruned, erase_pruned) e
 
     agree_visibly : TakesVisible form take f x → TakesVisible form take g y → Agree form x y
     agree_visibly h k =
@@ -74,7 +39,7 @@ module _ {T A : Type 0} (form : T → A) (take : Taking A) where
     say_same : TakesVisible form take f x → TakesVisible form take g y
         → ErrorsAgree (take (whole f)) x y
     say_same h k =
-        subst (λ a. ErrorsAgree (take a) x y) (same_whole f)
+        rw (← (same_whole f))
         (words_agree form take (pruned f) call_site (pruned g) call_site same_pruned
         (filled_pruned f)
         (filled_pruned g) x y (takes_pruned f x h) (takes_pruned g y k))
