@@ -1,5 +1,5 @@
 -- Two pruned forests with equal visible trees differ in no empty group.
-use Rattle.std.proofs.Common.{◌≡◌, sym, ◌∙◌}
+use Rattle.std.proofs.Common.{◌≡◌}
 use Rattle.tok_core.specs.Erase.{erase}
 use Rattle.tok_core.specs.Forest.{Forest}
 use Rattle.tok_pruned.specs.Pruned.{pruned}
@@ -9,7 +9,7 @@ use Rattle.syn_replay.specs.Transparent.{DifferInInvisibleGroups}
 pub differ_pruned : (left right : Forest) → erase left ≡ erase right
     → DifferInInvisibleGroups (pruned left) (pruned right)
 differ_pruned left right same = record {
-  visible = erase_pruned left ∙ same ∙ sym (erase_pruned right);
+  visible = rw (erase_pruned left, erase_pruned right) same;
   left_filled = filled_pruned left;
   right_filled = filled_pruned right;
 }
