@@ -15,12 +15,21 @@ use std::fmt::{Formatter, Write};
 use std::str::from_utf8_unchecked;
 use tok_core::Span;
 
-// A number takes at most 20 bytes. So a place takes 23 with its space, `@` and line feed, and a range
-// 43 with its space and `..`. The 66 bytes of both fit into 72, a multiple of eight.
+// The most digits of a `u64`.
+const MOST_DIGITS: usize = 20;
+
+// The most bytes of a range, with the space before it and its `..`.
+const LONGEST_RANGE: usize = MOST_DIGITS + MOST_DIGITS + 3;
+
+// The most bytes of a place, with its space, `@` and line feed.
+const LONGEST_PLACE: usize = MOST_DIGITS + 3;
+
+// The room for a range and a place, a multiple of eight bytes.
+const ROOM: usize = (LONGEST_RANGE + LONGEST_PLACE + 7) / 8 * 8;
 
 // Puts a byte before the bytes from `end` on, and returns where it is.
-fn put(bytes: &mut [u8; 72], byte: u8, end: usize) -> usize
-    requires room { (0 < end) × (end ≤ 72) }
+fn put(bytes: &mut [u8; ROOM], byte: u8, end: usize) -> usize
+    requires room { (0 < end) × (end ≤ ROOM) }
     requires ascii { byte < 128 }
     ensures written { drop result bytes.new ≡ byte ∷ drop end bytes.old }
     ensures place { result + 1 ≡ end }
@@ -31,21 +40,21 @@ fn put(bytes: &mut [u8; 72], byte: u8, end: usize) -> usize
 }
 
 // Puts a number before the bytes from `end` on, and returns where it begins.
-fn put_number(bytes: &mut [u8; 72], number: usize, end: usize) -> usize
-    requires { (20 ≤ end) × (end ≤ 72) }
+fn put_number(bytes: &mut [u8; ROOM], number: usize, end: usize) -> usize
+    requires { (MOST_DIGITS ≤ end) × (end ≤ ROOM) }
     ensures written { drop result bytes.new ≡ decimal number ++ drop end bytes.old }
-    ensures place { (end ≤ result + 20) × (result ≤ end) }
+    ensures place { (end ≤ result + MOST_DIGITS) × (result ≤ end) }
     ensures ascii { IsAscii (drop end bytes.old) → IsAscii (drop result bytes.new) }
 {
     write_digits(number as u64, bytes, end)
 }
 
 // Puts a space and a range.
-fn put_range(bytes: &mut [u8; 72], start: usize, stop: usize, end: usize) -> usize
-    requires { (43 ≤ end) × (end ≤ 72) }
+fn put_range(bytes: &mut [u8; ROOM], start: usize, stop: usize, end: usize) -> usize
+    requires { (LONGEST_RANGE ≤ end) × (end ≤ ROOM) }
     ensures written { drop result bytes.new
         ≡ codes " " ++ (decimal start ++ (codes ".." ++ (decimal stop ++ drop end bytes.old))) }
-    ensures place { (end ≤ result + 43) × (result ≤ end) }
+    ensures place { (end ≤ result + LONGEST_RANGE) × (result ≤ end) }
     ensures ascii { IsAscii (drop end bytes.old) → IsAscii (drop result bytes.new) }
 {
     let at = put_number(bytes, stop, end);
@@ -56,20 +65,20 @@ fn put_range(bytes: &mut [u8; 72], start: usize, stop: usize, end: usize) -> usi
 }
 
 // Puts a space, a place and a line feed at the end of the bytes.
-fn put_place(bytes: &mut [u8; 72], place: usize) -> usize
+fn put_place(bytes: &mut [u8; ROOM], place: usize) -> usize
     ensures written { drop result bytes.new ≡ codes " @" ++ (decimal place ++ codes "\n") }
-    ensures place { (49 ≤ result) × (result ≤ 72) }
+    ensures place { (ROOM ≤ result + LONGEST_PLACE) × (result ≤ ROOM) }
     ensures ascii { IsAscii (drop result bytes.new) }
 {
-    let at = put(bytes, b'\n', 72);
+    let at = put(bytes, b'\n', ROOM);
     let at = put_number(bytes, place, at);
     let at = put(bytes, b'@', at);
     put(bytes, b' ', at)
 }
 
 // Pushes the bytes from `start` on.
-fn push<W: Write>(f: &mut Formatter<W>, bytes: &[u8; 72], start: usize) -> fmt::Result
-    requires within { start ≤ 72 }
+fn push<W: Write>(f: &mut Formatter<W>, bytes: &[u8; ROOM], start: usize) -> fmt::Result
+    requires within { start ≤ ROOM }
     requires ascii { IsAscii (drop start bytes.now) }
     ensures { WritesOnOk W.write_str_gives f.old result (drop start bytes.now) f.new }
 {
@@ -83,7 +92,7 @@ pub fn write_end<W: Write>(f: &mut Formatter<W>, position: Position) -> fmt::Res
         (as_line (codes " " ++ spec.position_text (position_of position))) f.new }
 {
     if let Position::At(place) = position {
-        let mut bytes = [0u8; 72];
+        let mut bytes = [0u8; ROOM];
         let start = put_place(&mut bytes, place);
         return push(f, &bytes, start);
     }
@@ -104,7 +113,7 @@ pub fn write_spanned_end<W: Write>(
         f.new }
 {
     if let (Some((_, start, stop)), Position::At(place)) = (span.as_range(), position) {
-        let mut bytes = [0u8; 72];
+        let mut bytes = [0u8; ROOM];
         let at = put_place(&mut bytes, place);
         let at = put_range(&mut bytes, start, stop, at);
         return push(f, &bytes, at);
