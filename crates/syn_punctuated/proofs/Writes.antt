@@ -1,8 +1,8 @@
 -- How a list is written, a pair at a time.
 use Rattle.std.proofs.Common.{arith}
-use Rattle.std.proofs.Common.{◌≡◌, ℕ, suc, ◌+◌, ◌<◌, List, [], ◌∷◌, ◌++◌, map, take, drop, length}
+use Rattle.std.proofs.Common.{◌≡◌, ℕ, suc, ◌+◌, ◌<◌, ◌≤◌, List, [], ◌∷◌, ◌++◌, map, take, drop, length}
 use Rattle.std.proofs.Common.{get_or, Option, None, Some, refl, sym, ap, subst, ◌∙◌, drop-cons}
-use Rattle.std.proofs.lemmas.List.{take-append-drop, take_more}
+use Rattle.std.proofs.lemmas.List.{take-append-drop, take_all, take_more}
 use Rattle.std.specs.Global.{Box}
 use Rattle.std.specs.Prelude.{Result, OnOk, OnErr}
 use Rattle.tok_core.specs.Forest.{Forest, concat, no_trees, tree, AppendsFront}
@@ -58,6 +58,21 @@ module _ {X Y : Type 0} (value : X → Forest) (separator : Y → Forest) where
       → by_turns value separator (values_of list) (separators_of list)
       ≡ concat (pairs_written list.inner.items) (last_written list.last)
   list_written list = by_turns-pairs list.inner.items list.last
+
+  -- the whole list, with x as its last value
+  pub last_follows : (list : Punctuated X Y) (last : Box X) (x : X) → list.last ≡ Some last
+      → x ≡ last.value → by_turns value separator (values_of list) (separators_of list)
+      ≡ concat (pairs_written list.inner.items) (value x)
+  last_follows list last x is same =
+      list_written list
+      ∙ ap (λ last. concat (pairs_written list.inner.items) (last_written last)) is
+      ∙ ap (λ y. concat (pairs_written list.inner.items) (value y)) (sym same)
+
+  -- all pairs, once the index is past them
+  pub pairs_all : (old mid : Forest) (ps : List (X × Y)) (i : ℕ) → length ps ≤ i
+      → mid ≡ concat old (pairs_written (take i ps)) → mid ≡ concat old (pairs_written ps)
+  pairs_all old mid ps i past before =
+      before ∙ ap (λ qs. concat old (pairs_written qs)) (take_all i ps past)
 
   -- one pair further
   pub pairs_more : (old mid new : Forest) (ps : List (X × Y)) (i : ℕ) (p : X × Y) → i < length ps

@@ -1,11 +1,10 @@
-use Rattle.std.proofs.Common.{rules, arith, ◌≡◌, ◌∙◌, ap, sym, subst, get_or}
-use Rattle.std.proofs.lemmas.List.{take_all}
+use Rattle.std.proofs.Common.{rules, arith, ◌∙◌, ap, sym, subst, get_or}
 use Rattle.tok_core.specs.Forest.{AppendsFront, Forest, concat}
 use Rattle.tok_core.proofs.Facts.{concat-none, joined_assoc}
 use Rattle.syn_punctuated.specs.Lists.{values_of, separators_of}
 use Rattle.syn_punctuated.specs.Printed.{by_turns}
 use Rattle.syn_punctuated.proofs.Writes.{on_ok, on_err, front_second, pairs_written, last_written}
-use Rattle.syn_punctuated.proofs.Writes.{list_written, pairs_more, pairs_stop}
+use Rattle.syn_punctuated.proofs.Writes.{last_follows, list_written, pairs_all, pairs_more, pairs_stop}
 use Rattle.syn_punctuated.proofs.print.PunctuatedToTokens.to_tokens.Goals as goal
 
 pub loop-pair-init : goal.loop-pair-init
@@ -38,15 +37,9 @@ returns-in-Some-clause-ok g c =
     let separator = g.P.ToTokens.printed in
     let list = c.args.self.now in
     let pairs = pairs_written value separator list.inner.items in
-    let before : c.loop-pair.tokens ≡ concat c.args.tokens.now pairs =
-    c.loop-pair.invariant
-    ∙ ap (λ ps. concat c.args.tokens.now (pairs_written value separator ps))
-    (take_all c.loop-pair.pair-index list.inner.items (omega arith)) in
-    let all : by_turns value separator (values_of list) (separators_of list)
-    ≡ concat pairs (value c.as_ref.result.now) =
-    list_written value separator list
-    ∙ ap (λ last. concat pairs (last_written value separator last)) c.in-Some.is
-    ∙ ap (λ x. concat pairs (value x)) (sym c.as_ref.ensures) in
+    let before = pairs_all value separator c.args.tokens.now c.loop-pair.tokens list.inner.items
+    c.loop-pair.pair-index (omega arith) c.loop-pair.invariant in
+    let all = last_follows value separator list _ _ c.in-Some.is c.as_ref.ensures in
     on_ok c.to_tokens.result (λ done. done ∙ ap (λ f. concat f (value c.as_ref.result.now)) before
     ∙ joined_assoc c.args.tokens.now pairs (value c.as_ref.result.now)
     ∙ ap (concat c.args.tokens.now) (sym all)) c.to_tokens.ensures.ok
@@ -57,15 +50,9 @@ returns-in-Some-clause-err g c =
     let separator = g.P.ToTokens.printed in
     let list = c.args.self.now in
     let pairs = pairs_written value separator list.inner.items in
-    let before : c.loop-pair.tokens ≡ concat c.args.tokens.now pairs =
-    c.loop-pair.invariant
-    ∙ ap (λ ps. concat c.args.tokens.now (pairs_written value separator ps))
-    (take_all c.loop-pair.pair-index list.inner.items (omega arith)) in
-    let all : by_turns value separator (values_of list) (separators_of list)
-    ≡ concat pairs (value c.as_ref.result.now) =
-    list_written value separator list
-    ∙ ap (λ last. concat pairs (last_written value separator last)) c.in-Some.is
-    ∙ ap (λ x. concat pairs (value x)) (sym c.as_ref.ensures) in
+    let before = pairs_all value separator c.args.tokens.now c.loop-pair.tokens list.inner.items
+    c.loop-pair.pair-index (omega arith) c.loop-pair.invariant in
+    let all = last_follows value separator list _ _ c.in-Some.is c.as_ref.ensures in
     on_err c.to_tokens.result
     (λ stopped. subst (λ (f : Forest). AppendsFront c.args.tokens.now f c.to_tokens.new.tokens)
     (sym all) (front_second c.args.tokens.now pairs c.loop-pair.tokens
@@ -77,10 +64,8 @@ returns-in-None-clause-ok g c =
     let separator = g.P.ToTokens.printed in
     let list = c.args.self.now in
     let pairs = pairs_written value separator list.inner.items in
-    let before : c.loop-pair.tokens ≡ concat c.args.tokens.now pairs =
-    c.loop-pair.invariant
-    ∙ ap (λ ps. concat c.args.tokens.now (pairs_written value separator ps))
-    (take_all c.loop-pair.pair-index list.inner.items (omega arith)) in
+    let before = pairs_all value separator c.args.tokens.now c.loop-pair.tokens list.inner.items
+    c.loop-pair.pair-index (omega arith) c.loop-pair.invariant in
     before ∙ ap (concat c.args.tokens.now)
     (sym (list_written value separator list
     ∙ ap (λ last. concat pairs (last_written value separator last)) c.in-None.is
