@@ -1,9 +1,5 @@
 //! Decides whether a text is valid for an identifier or a literal.
-ghost use Rattle.std.specs.Prelude.{◌≡◌, [], MatchBool, MatchOption, None};
-ghost use Rattle.std.specs.Str.{chars};
-ghost use Rattle.tok_lexical.specs.Errors as errors;
-ghost use Rattle.tok_lexical.specs.declared.edition.Edition.TheVariants.{Edition2024};
-ghost use Rattle.tok_lexical.specs.declared.rule.Mode.TheVariants.{Source};
+ghost use Rattle.std.specs.Prelude.{◌≡◌, MatchBool, MatchOption};
 ghost use Rattle.tok_lexical.specs.declared.rule.Rule.{Rule};
 ghost use Rattle.tok_entries.specs.Texts.{IsLiteralText, IsNegative, IsPiece, IsRawWord, IsUnsigned, IsWord, is_number_rule, is_quoted_rule};
 
@@ -67,21 +63,10 @@ fn rule_of(text: &str) -> Option<Rule>
     let Some((rule, after)) = first_rule(SOURCE, text) else {
         return None;
     };
-    if after.is_empty() && is_read(rule, text) {
+    if after.is_empty() && error_kind(rule, SOURCE, 0, text, "", true).is_none() {
         Some(rule)
     } else {
         None
-    }
-}
-
-fn is_read(rule: Rule, text: &str) -> bool
-    ensures { MatchBool result
-        (errors.error_kind rule (Source Edition2024) 0 (chars text.now) [] ≡ None)
-        (errors.error_kind rule (Source Edition2024) 0 (chars text.now) [] ≡ None → ⊥) }
-{
-    match error_kind(rule, SOURCE, 0, text, "", true) {
-        Some(_) => false,
-        None => true,
     }
 }
 

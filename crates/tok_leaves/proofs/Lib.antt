@@ -1,7 +1,7 @@
 mod ByText
 mod IdentFaults
 mod Kept
-mod Literals
+pub mod Literals
 pub mod Names
 mod Plain
 mod Quoting

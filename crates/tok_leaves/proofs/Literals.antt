@@ -1,14 +1,18 @@
 -- A text is one literal, by one rule.
-use Rattle.std.proofs.Common.{◌≡◌, ◌∷◌, [], arith, false, length, List, ℕ, None}
-use Rattle.std.proofs.Common.{suc, true}
-use Rattle.std.specs.Prelude.{◌==◌, Bool, MatchBool}
+use Rattle.std.proofs.Common.{◌≡◌, ◌∙◌, ◌∷◌, [], arith, false, length, List, ℕ, None, Some}
+use Rattle.std.proofs.Common.{suc, sym, true}
+use Rattle.std.specs.Option.{is_some}
+use Rattle.std.specs.Prelude.{◌==◌, Bool, MatchBool, Option, not}
 use Rattle.std.specs.Str.{chars, IsUtf8}
+use Rattle.std.proofs.lemmas.Bool.{false≢true}
 use Rattle.std.proofs.lemmas.List.{append-nil}
+use Rattle.std.proofs.lemmas.Option.{none-some}
 use Rattle.std.proofs.lemmas.Str.{chars-nil}
 use Rattle.tok_lexical.specs.Errors.{error_kind}
 use Rattle.tok_lexical.specs.Fits.{IsFirstFit, here, later, NoneBefore}
 use Rattle.tok_lexical.specs.Rules.{rules_of}
 use Rattle.tok_lexical.specs.declared.edition.Edition.TheVariants.{Edition2024}
+use Rattle.tok_lexical.specs.declared.lex_error_kind.LexErrorKind.{LexErrorKind}
 use Rattle.tok_lexical.specs.declared.rule.Mode.TheVariants.{Source}
 use Rattle.tok_lexical.specs.declared.rule.Rule.{Rule}
 use Rattle.tok_lexical.proofs.Fits.{decides_unique, fits_longest}
@@ -49,6 +53,17 @@ module _ (text piece : List ℕ) (rest : List ℕ) (rule : Rule)
       let none : chars rest ≡ [] = cc (no_text rest h, chars-nil) in
       let whole : piece ≡ text = cc ((fits_longest fit).cut, append-nil piece) in
       (rule, is, rw (none, whole) at fit, ok)
+
+-- The rule accepts the piece, which is at the end of a text, if no error is found.
+pub accepts : (rule : Rule) (text : List ℕ) (found : Option LexErrorKind) (is_read : Bool) →
+    found ≡ error_kind rule (Source Edition2024) 0 text (chars []) → is_some found ≡ not is_read →
+    MatchBool is_read (error_kind rule (Source Edition2024) 0 text [] ≡ None)
+    (error_kind rule (Source Edition2024) 0 text [] ≡ None → ⊥)
+accepts rule text None true e t = sym (rw chars-nil at e)
+accepts rule text (Some kind) false e t =
+    λ none. none-some kind (sym none ∙ sym (rw chars-nil at e))
+accepts rule text None false e t = absurd (false≢true t)
+accepts rule text (Some kind) true e t = absurd (false≢true (sym t))
 
 -- a test of the one tells the other
 pub by_test : (P Q : Type 0) (b : Bool) → (Q → P) → ((Q → ⊥) → P → ⊥) → MatchBool b Q (Q → ⊥) →

@@ -1,9 +1,6 @@
 //! Decides whether a text is exactly one literal, and finds the reason if it is not.
-ghost use Rattle.std.specs.Prelude.{◌≡◌, [], MatchBool, None, Some};
+ghost use Rattle.std.specs.Prelude.{◌≡◌, MatchBool, Some};
 ghost use Rattle.std.specs.Str.{chars};
-ghost use Rattle.tok_lexical.specs.Errors as errors;
-ghost use Rattle.tok_lexical.specs.declared.edition.Edition.TheVariants.{Edition2024};
-ghost use Rattle.tok_lexical.specs.declared.rule.Mode.TheVariants.{Source};
 ghost use Rattle.tok_leaves.specs.Literals.{IsOneLiteral, is_literal_rule, literal_fault, literal_fault_words};
 
 use std::alloc::AllocError;
@@ -73,19 +70,7 @@ pub fn is_literal(text: &str) -> bool
     if !is_literal_rule(rule) {
         return false;
     }
-    is_read(rule, text)
-}
-
-// Returns `true` if a rule that takes all of this text does not reject it.
-fn is_read(rule: Rule, text: &str) -> bool
-    ensures { MatchBool result
-        (errors.error_kind rule (Source Edition2024) 0 (chars text.now) [] ≡ None)
-        (errors.error_kind rule (Source Edition2024) 0 (chars text.now) [] ≡ None → ⊥) }
-{
-    match error_kind(rule, SOURCE, 0, text, "", true) {
-        Some(_) => false,
-        None => true,
-    }
+    error_kind(rule, SOURCE, 0, text, "", true).is_none()
 }
 
 fn is_literal_rule(rule: Rule) -> bool
