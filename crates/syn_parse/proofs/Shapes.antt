@@ -6,6 +6,7 @@ use Rattle.std.proofs.Common.{bytes_eq}
 use Rattle.std.proofs.lemmas.Bool.{and_parts, false≢true}
 use Rattle.std.proofs.lemmas.Option.{some_pair_parts}
 use Rattle.std.proofs.lemmas.Slice.Eq.{bytes_eq-Decides}
+use Rattle.tok_lexical.specs.Ascii.{apostrophe}
 use Rattle.tok_lexical.specs.declared.delimiter.Delimiter.{Delimiter}
 use Rattle.tok_leaves.specs.declared.ident.Ident.{Ident}
 use Rattle.tok_leaves.specs.declared.lifetime.Lifetime.{Lifetime}
@@ -15,7 +16,7 @@ use Rattle.tok_leaves.specs.declared.punct.Spacing.{Spacing}
 use Rattle.tok_leaves.specs.declared.punct.Spacing.TheVariants.{Joint}
 use Rattle.tok_leaves.specs.declared.span.DelimSpan.{DelimSpan}
 use Rattle.tok_leaves.specs.declared.span.Span.{Span}
-use Rattle.tok_leaves.specs.Leaves.{apostrophe, punct, ident_of, literal_of}
+use Rattle.tok_leaves.specs.Leaves.{punct, ident_of, literal_of}
 use Rattle.tok_core.specs.Clear.{is_joint_apostrophe}
 use Rattle.tok_core.specs.Forest.{Tree, leaf, group, Forest, tree, forest, concat, tree_span}
 use Rattle.tok_buffer.specs.EachRead.{and_first, first_if, first_keyword, first_lifetime}

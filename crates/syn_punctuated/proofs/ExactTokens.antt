@@ -4,12 +4,13 @@ use Rattle.std.proofs.Common.{◌≡◌, ◌∙◌, sym, ap, subst, refl, ℕ, �
 use Rattle.std.proofs.Common.{[], ◌∷◌, map, Option, Some, None, eq-eqb, eqb-true}
 use Rattle.std.proofs.lemmas.Bool.{and_from, and_parts, false≢true}
 use Rattle.std.specs.Prelude.{is_some}
+use Rattle.tok_lexical.specs.Ascii.{apostrophe}
 use Rattle.tok_lexical.specs.declared.delimiter.Delimiter.{Delimiter}
 use Rattle.tok_leaves.specs.declared.ident.Ident.{Ident}
 use Rattle.tok_leaves.specs.declared.punct.Spacing.TheVariants.{Alone, Joint}
 use Rattle.tok_leaves.specs.declared.span.DelimSpan.{DelimSpan}
 use Rattle.tok_leaves.specs.declared.span.Span.{Span}
-use Rattle.tok_leaves.specs.Leaves.{apostrophe, ident, literal, punct}
+use Rattle.tok_leaves.specs.Leaves.{ident, literal, punct}
 use Rattle.tok_core.specs.Forest.{Forest, Tree, concat, forest, group, leaf, tree, tree_span}
 use Rattle.tok_buffer.specs.Entry.{EnteredWith}
 use Rattle.tok_buffer.specs.InFront.{first_group}

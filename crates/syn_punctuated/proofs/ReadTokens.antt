@@ -8,8 +8,9 @@ use Rattle.std.specs.List.{All, list_all}
 use Rattle.tok_leaves.specs.declared.ident.Ident.{Ident}
 use Rattle.tok_leaves.specs.declared.punct.Spacing.TheVariants.{Joint}
 use Rattle.tok_leaves.specs.declared.span.Span.{Span}
-use Rattle.tok_leaves.specs.Leaves.{punct, ident_of, apostrophe}
+use Rattle.tok_leaves.specs.Leaves.{punct, ident_of}
 use Rattle.tok_core.specs.Forest.{Tree, leaf, Forest, no_trees, tree, forest, concat, tree_span}
+use Rattle.tok_lexical.specs.Ascii.{apostrophe}
 use Rattle.tok_lexical.specs.Characters.{is_punct_or_apostrophe}
 use Rattle.tok_leaves.specs.Spans.{call_site}
 use Rattle.tok_buffer.specs.Ahead.{Leftover}

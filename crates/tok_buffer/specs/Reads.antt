@@ -1,10 +1,11 @@
 -- What is read at a place, and the place after it.
 use Rattle.std.specs.Prelude.{ℕ, ◌==◌, ◌&&◌, not, Bool, true, false, if◌then◌else◌, List, [], ◌∷◌, ◌++◌}
 use Rattle.std.specs.Prelude.{length, map, Option, Some, None, option_map, bytes_eq}
+use Rattle.tok_lexical.specs.Ascii.{apostrophe}
 use Rattle.tok_leaves.specs.declared.punct.Spacing.TheVariants.{Joint}
 use Rattle.tok_core.specs.Clear.{is_joint_apostrophe}
 use Rattle.tok_leaves.specs.declared.span.Span.{Span}
-use Rattle.tok_leaves.specs.Leaves.{ident, punct, literal, apostrophe}
+use Rattle.tok_leaves.specs.Leaves.{ident, punct, literal}
 use Rattle.tok_core.specs.Forest.{Tree, leaf, group, tree_span}
 use Rattle.tok_buffer.specs.Descent.{descend}
 use Rattle.tok_buffer.specs.Place.{Place, front, pass}

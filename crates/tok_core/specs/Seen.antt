@@ -4,10 +4,11 @@ use Rattle.tok_core.specs.declared.group.Group.{Group}
 use Rattle.tok_core.specs.declared.stream.TokenTree.{TokenTree}
 use Rattle.tok_core.specs.declared.stream.TokenTree.TheVariants as made
 use Rattle.tok_core.specs.Forest.{Tree, leaf, group, Forest, no_trees, tree, forest}
+use Rattle.tok_lexical.specs.Ascii.{apostrophe}
 use Rattle.tok_leaves.specs.declared.lifetime.Lifetime.{Lifetime}
 use Rattle.tok_leaves.specs.declared.punct.Spacing.TheVariants.{Joint}
 use Rattle.tok_leaves.specs.declared.span.Span.{Span}
-use Rattle.tok_leaves.specs.Leaves.{Leaf, punct, ident_of, punct_of, literal_of, apostrophe}
+use Rattle.tok_leaves.specs.Leaves.{Leaf, punct, ident_of, punct_of, literal_of}
 use Rattle.tok_leaves.specs.Spans.{bounds_delimiter, bounds_span}
 
 -- the tree that a `Group` stands for

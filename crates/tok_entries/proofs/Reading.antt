@@ -9,11 +9,12 @@ use Rattle.std.proofs.lemmas.Str.{encode_ascii, inside_one, len_utf8_bounds, len
 use Rattle.std.specs.List.{slice_get}
 use Rattle.std.specs.Prelude.{◌==◌, ◌&&◌, cond, encode_utf8, MatchOption, not, Option}
 use Rattle.std.specs.Prelude.{option_map}
+use Rattle.tok_lexical.specs.Ascii.{apostrophe}
 use Rattle.tok_lexical.specs.declared.delimiter.Delimiter.{Delimiter}
 use Rattle.tok_lexical.specs.declared.delimiter.Delimiter.TheVariants as delimiter
 use Rattle.tok_leaves.specs.declared.punct.Spacing.TheVariants.{Alone, Joint}
 use Rattle.tok_leaves.specs.declared.span.Span.{Span}
-use Rattle.tok_leaves.specs.Leaves.{Leaf, apostrophe, ident, punct, literal, leaf_text}
+use Rattle.tok_leaves.specs.Leaves.{Leaf, ident, punct, literal, leaf_text}
 use Rattle.tok_leaves.specs.Spans.{opening_span}
 use Rattle.tok_core.specs.Erase.{erase}
 use Rattle.tok_core.specs.Filled.{has_trees}

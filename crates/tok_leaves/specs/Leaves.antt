@@ -59,7 +59,3 @@ unraw text = text
 abbrev pub make_fault_words : MakeFault → List ℕ
 make_fault_words Refused = codes "not an identifier, or one without a raw form"
 make_fault_words Memory = codes "out of memory"
-
--- the code point of `'`, with which a lifetime begins
-abbrev pub apostrophe : ℕ
-apostrophe = 39

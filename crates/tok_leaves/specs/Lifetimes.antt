@@ -3,9 +3,9 @@ use Rattle.std.specs.Prelude.{ℕ, ◌==◌, ◌&&◌, Bool, false, if◌then◌
 use Rattle.std.specs.Prelude.{Option, Some, None}
 use Rattle.std.specs.List.{list_all}
 use Rattle.unicode_ident.specs.Ident.{is_xid_continue}
-use Rattle.tok_lexical.specs.Ascii.{lower_r, number_sign}
+use Rattle.tok_lexical.specs.Ascii.{apostrophe, lower_r, number_sign}
 use Rattle.tok_lexical.specs.Words.{is_identifier_start, has_no_raw}
-use Rattle.tok_leaves.specs.Leaves.{apostrophe, ident_of, leaf_text}
+use Rattle.tok_leaves.specs.Leaves.{ident_of, leaf_text}
 use Rattle.tok_leaves.specs.declared.ident.MakeFault.{MakeFault}
 use Rattle.tok_leaves.specs.declared.ident.MakeFault.TheVariants as made
 use Rattle.tok_leaves.specs.declared.ident.MakeFault.TheVariants.{Refused}

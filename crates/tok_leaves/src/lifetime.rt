@@ -1,7 +1,8 @@
 //! Lifetimes.
 ghost use Rattle.std.specs.Prelude.{◌≡◌, ◌++◌, ◌∷◌, codes, None, MatchOption, IfSome, IfOk, IfErr, Some};
 ghost use Rattle.std.specs.Str.{chars, IsUtf8};
-ghost use Rattle.tok_leaves.specs.Leaves.{ident, ident_of, leaf_span, leaf_text, apostrophe};
+ghost use Rattle.tok_leaves.specs.Leaves.{ident, ident_of, leaf_span, leaf_text};
+ghost use Rattle.tok_lexical.specs.Ascii.{apostrophe};
 ghost use Rattle.tok_lexical.specs.Words.{has_no_raw};
 ghost use Rattle.tok_leaves.specs.Lifetimes.{lifetime_fault_words, lifetime_fault, lifetime_text, name_fault, name_error, plain_error, raw_error, error_in};
 ghost use Rattle.tok_leaves.specs.Spans.{covering};

@@ -1,7 +1,8 @@
 //! Methods of `Cursor` that read a token, skip a token or enter a group.
 ghost use Rattle.std.specs.Prelude.{◌≡◌, ◌∷◌, [], length, MatchOption, Some, None, is_some};
 ghost use Rattle.std.specs.Str.{chars};
-ghost use Rattle.tok_leaves.specs.Leaves.{punct_of, apostrophe, punct, ident_of, literal_of};
+ghost use Rattle.tok_lexical.specs.Ascii.{apostrophe};
+ghost use Rattle.tok_leaves.specs.Leaves.{punct_of, punct, ident_of, literal_of};
 ghost use Rattle.tok_leaves.specs.Spans.{whole_span};
 ghost use Rattle.tok_leaves.specs.declared.punct.Spacing.TheVariants.{Joint};
 ghost use Rattle.tok_core.specs.Clear.{is_joint_apostrophe};
