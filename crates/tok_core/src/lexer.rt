@@ -19,6 +19,7 @@ use blanks::past_blanks;
 pub use build::Build;
 use build::TreeBuilder;
 pub use error::{LexError, LexFault};
+pub use nest::MOST_LEVELS;
 use nest::Nest;
 use std::alloc::Global;
 use tok_lexical::source::past_start;

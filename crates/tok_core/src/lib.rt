@@ -17,7 +17,7 @@ mod tt;
 
 pub use group::Group;
 pub use invisible::{is_clear, is_filled, same_visible};
-pub use lexer::{Build, LexError, LexFault, lex, lex_marked, lex_source, read};
+pub use lexer::{Build, LexError, LexFault, MOST_LEVELS, lex, lex_marked, lex_source, read};
 pub use stream::{TokenStream, TokenTree};
 pub use to_tokens::ToTokens;
 pub use tok_leaves::{

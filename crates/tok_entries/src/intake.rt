@@ -19,7 +19,7 @@ pub use fault::{EntryFault, Refusal};
 use group::group_parts;
 use leaf::read_leaf;
 use std::alloc::{AllocError, Global};
-use tok_core::{Build, Delimiter, Span};
+use tok_core::{Build, Delimiter, MOST_LEVELS, Span};
 
 /// A builder that can remove its innermost open group if the group is empty.
 pub trait TakeBack: Build {
@@ -37,9 +37,6 @@ pub trait TakeBack: Build {
         ensures left { result ≡ false → (Self.levels self.new ≡ Self.levels self.old)
             × (has_trees (Self.levels self.old).inner ≡ true) };
 }
-
-// How many groups may be nested.
-const MOST_LEVELS: usize = 256;
 
 /// Reads an array of entries into a builder, without the invisible groups that contain no visible
 /// tree.

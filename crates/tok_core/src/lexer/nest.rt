@@ -27,6 +27,9 @@ use tok_lexical::{
     past_told_punct,
 };
 
+/// The most groups that may be nested.
+pub const MOST_LEVELS: usize = 256;
+
 /// A builder, together with the delimiters and the positions of its open groups.
 ///
 /// `open` contains the groups from the outermost to the innermost.
@@ -200,7 +203,7 @@ impl<B: Build + Drop> Nest<B> {
             (λ halt. OnHalted halt (IsTooDeep (state B.levels self.old))) }
     {
         let levels = self.open.len();
-        if levels == 256 {
+        if levels == MOST_LEVELS {
             return Err(Halt::Refused(LexErrorKind::DeepGroup));
         }
         let span = Span::source(self.source, at, end);
@@ -216,7 +219,7 @@ impl<B: Build + Drop> Nest<B> {
         ensures refused { IfErr result
             (λ halt. OnHalted halt (IsTooDeep (state B.levels self.old))) }
     {
-        if self.open.len() == 256 {
+        if self.open.len() == MOST_LEVELS {
             return Err(Halt::Refused(LexErrorKind::DeepGroup));
         }
         self.built.open()?;

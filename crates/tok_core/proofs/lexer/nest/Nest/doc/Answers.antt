@@ -6,5 +6,6 @@ use Rattle.tok_core.proofs.lexer.nest.Nest.doc.Goals as goal
 pub returns-clause-ok : goal.returns-clause-ok
 returns-clause-ok g c = grows_doc c.args.at _ _ c.args.end c.args.is_inner
     (chars c.args.text.now) c.source-span.result
-    (λ full. c.if-levels-eq256.false (c.len-levels.ensures ∙ c.args.self.now.«open».ok.0 ∙ full))
+    (λ full. c.if-levels-eq-MOST_LEVELS.false
+    (c.len-levels.ensures ∙ c.args.self.now.«open».ok.0 ∙ full))
     c.source-span.ensures refl refl c.in_ok-append_doc.ensures

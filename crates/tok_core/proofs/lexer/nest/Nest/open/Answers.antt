@@ -4,5 +4,6 @@ use Rattle.tok_core.proofs.lexer.nest.Nest.open.Goals as goal
 
 pub returns-in-Ok-clause-ok : goal.returns-in-Ok-clause-ok
 returns-in-Ok-clause-ok g c = grows_opened c.args.at _ _ c.args.delimiter
-    (λ full. c.if-len-eq256.false (c.len.ensures ∙ c.args.self.now.«open».ok.0 ∙ full)) refl
+    (λ full. c.if-len-eq-MOST_LEVELS.false
+    (c.len.ensures ∙ c.args.self.now.«open».ok.0 ∙ full)) refl
     c.in-Ok.ensures.items c.in_ok-open.ensures.ok
