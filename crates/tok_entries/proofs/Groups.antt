@@ -55,9 +55,6 @@ module _ (at : ℕ) (first : Entry) (after later held : List Entry) (words : Lis
     pub closing_is : closing ≡ edge 4 d (closing_span s) (at + length words) (length held + 1)
     closing_is = head _ _ _ _ behind_is
 
-    pub others_are : others ≡ later
-    others_are = tail _ _ _ _ behind_is
-
     pub start_is : (a b : ℕ) → s ≡ source 0 a b → first.start ≡ a
     start_is a b h =
         cc (opening_is, opening_first a b)

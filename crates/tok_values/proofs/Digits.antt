@@ -4,7 +4,7 @@ use Rattle.std.proofs.Common.{arith, true, false}
 use Rattle.std.specs.Prelude.{fold, if◌then◌else◌}
 use Rattle.std.specs.Char.{is_digit, digit_value}
 use Rattle.std.proofs.Math.Nat.{mul-le-mul_left}
-use Rattle.std.proofs.lemmas.Bool.{cond_both, le-ltb, lt-ltb}
+use Rattle.std.proofs.lemmas.Bool.{cond_both, lt-ltb}
 use Rattle.tok_lexical.specs.Numbers.{IsNumberSuffix, has_digit, is_digit_or_underscore}
 use Rattle.tok_lexical.specs.Numbers.{starts_digit}
 use Rattle.tok_lexical.specs.Pieces.{Skips}
@@ -28,9 +28,6 @@ module _ (radix : ℕ) (all rest after : List ℕ) (value c : ℕ)
   pub number_more : (d : ℕ) → (digit_value c < radix) × (d ≡ digit_value c)
       → fold (step radix) (value * radix + d) after ≡ number radix all
   number_more d (low, is) = let digit = lt-ltb (digit_value c) radix low in cc
-
-  pub number_same : (digit_value c < radix → ⊥) → fold (step radix) value after ≡ number radix all
-  number_same high = let digit = le-ltb (digit_value c) radix (omega (arith, high)) in cc
 
   pub number_past : (d top : ℕ) → 1 ≤ radix → (digit_value c < radix) × (d ≡ digit_value c)
       → (value * radix + d < top → ⊥) → top ≤ number radix all

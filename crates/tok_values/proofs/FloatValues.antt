@@ -44,9 +44,6 @@ is_part c =
     is_digit_or_underscore 10 c
     || ((c == 46) || ((c == 101) || ((c == 69) || ((c == 43) || (c == 45)))))
 
-digit_low : (c : ℕ) → is_digit c 10 ≡ true → c < 128
-digit_low c p = grind (arith, nat_tests)
-
 part_low : (c : ℕ) → is_part c ≡ true → c < 128
 part_low c p = grind (arith, nat_tests)
 

@@ -12,22 +12,16 @@ use Rattle.tok_lexical.specs.Pieces.{begins_with}
 use Rattle.tok_lexical.specs.Words.{IsSuffix}
 use Rattle.tok_lexical.proofs.Digits.{all_stops}
 use Rattle.tok_lexical.specs.RawQuotes.{InRawQuotes}
-use Rattle.tok_values.specs.RawStrings.{IsRawBytesValue, IsRawStringValue}
+use Rattle.tok_values.specs.RawStrings.{IsRawStringValue}
 use Rattle.tok_values.specs.Suffixed.{InRaw}
 use Rattle.tok_values.specs.Suffixes.{is_mark, literal_suffix}
 use Rattle.tok_values.proofs.Endings.{quoted_have_their_suffix}
 
--- what functions that look for these values return
+-- what functions that look for the values of raw strings return
 abbrev pub ReadsRaw : List ℕ → Option (Bor (List ℕ)) → Type 0
 ReadsRaw text answer =
     MatchOption answer ((value : List ℕ) → IsRawStringValue text value → ⊥)
     (λ value. IsRawStringValue text value.now)
-
--- what functions that look for the values of raw byte strings return
-abbrev pub ReadsRawBytes : List ℕ → Option (Bor (List ℕ)) → Type 0
-ReadsRawBytes text answer =
-    MatchOption answer ((value : List ℕ) → IsRawBytesValue text value → ⊥)
-    (λ value. IsRawBytesValue text value.now)
 
 -- after `r`, what is between the quotes
 pub raw_value : (text quoted : List ℕ) → text ≡ 114 ∷ quoted → (answer : Option (Bor (List ℕ))) →

@@ -32,13 +32,10 @@ pub some_suffix : (text : List ℕ) (b : Bool) → IsUtf8 text → (length text 
 some_suffix text true u some h = inr h
 some_suffix text false u some h = λ s. elim s [ inl e ↦ some_chars text u some e | inr i ↦ h i ]
 
--- quotes are read, or no others are there
+-- no other quotes are there
 module _ (Tail : List ℕ → Type 0) (unit_of : List ℕ → Option (List ℕ × List ℕ))
     (stops : (rest : List ℕ) → unit_of (34 ∷ rest) ≡ None) (text inner rest meaning : List ℕ)
     (cut : text ≡ 34 ∷ inner) (reads : MeansBy unit_of inner rest meaning) where
-  pub quoted : After 34 Tail rest → InQuotes Tail unit_of text meaning
-  quoted h = (inner, cut, (rest, reads, h))
-
   pub not_quoted : unit_of rest ≡ None → (After 34 Tail rest → ⊥) → (other : List ℕ) →
       InQuotes Tail unit_of text other → ⊥
   not_quoted ends never other (inside, e, (left, read, (suffix, f, s))) =
