@@ -1,14 +1,21 @@
 -- The laws of reading: what is read so and refused so follows the grammar.
-use Rattle.std.proofs.Common.{◌≡◌, ◌∙◌, ℕ, List, sym, Ok, Err, Result, refl}
+use Rattle.std.proofs.Common.{◌≡◌, ◌∙◌, ◌++◌, ◌-◌, ◌≤◌, ℕ, List, sym, Ok, Err, Result, refl}
+use Rattle.std.proofs.Common.{arith, length}
 use Rattle.std.specs.Result.{IfOk, IfErr}
+use Rattle.std.specs.Str.{chars, IsUtf8}
+use Rattle.tok_lexical.specs.Sources.{BeginsAt}
+use Rattle.tok_lexical.specs.Widths.{bytes}
 use Rattle.tok_core.specs.Forest.{Forest}
 use Rattle.tok_core.specs.Lexical.Errors.{OnRefused}
-use Rattle.tok_core.specs.Lexical.Outcome.{FollowsFrom}
+use Rattle.tok_core.specs.Lexical.Outcome.{FollowsFrom, FollowsSource}
 use Rattle.tok_core.specs.Lexical.Reading.{ReadsFrom, IsRefusedFrom}
 use Rattle.tok_core.specs.declared.lexer.error.LexError.{LexError}
 use Rattle.tok_core.specs.declared.lexer.error.LexFault.{LexFault}
 use Rattle.tok_core.specs.declared.lexer.error.LexFault.TheVariants.{Refused, Memory}
+use Rattle.tok_lexical.specs.declared.edition.Edition.{Edition}
 use Rattle.tok_lexical.specs.declared.rule.Mode.{Mode}
+use Rattle.tok_lexical.specs.declared.rule.Mode.TheVariants.{Source}
+use Rattle.tok_lexical.proofs.Texts.{cut_length}
 use Rattle.tok_core.proofs.Lexical.Flat.{one_forest}
 use Rattle.tok_core.proofs.Lexical.Only.{one_cut, one_way, not_both}
 
@@ -53,3 +60,19 @@ module _ (begin : ℕ) (mode : Mode) (number : ℕ) (text : List ℕ) where
     refuses = refused;
     only_refused = λ error h. tt;
   }
+
+-- A source without its front, as `past_start` cuts it. Each call that reads a source cites these
+-- lemmas: `lex_source`, and `from_source` of `tok_entries` and of `tok_buffer`.
+module _ (text rest : List ℕ) (cut : (front : List ℕ) × (chars text ≡ front ++ chars rest))
+    (u : IsUtf8 text) (v : IsUtf8 rest) where
+  pub no_longer : length rest ≤ length text
+  no_longer = let whole = cut_length text rest cut.0 u v cut.1 in omega arith
+
+  pub follows_source : (edition : Edition) (number : ℕ) → BeginsAt (chars text) (chars rest) →
+      (answer : Result Forest LexFault) →
+      FollowsFrom (length text - length rest) (Source edition) number (chars rest) answer →
+      FollowsSource edition number (chars text) answer
+  follows_source edition number begins answer reads =
+      let whole = cut_length text rest cut.0 u v cut.1 in
+      let skipped : length text - length rest ≡ bytes cut.0 = omega arith in
+      (cut.0, chars rest, cut.1, begins, rw skipped at reads)

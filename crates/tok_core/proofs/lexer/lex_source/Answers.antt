@@ -1,28 +1,14 @@
-use Rattle.std.proofs.Common.{◌≡◌, ◌-◌, length, arith}
-use Rattle.std.specs.Str.{chars}
-use Rattle.tok_lexical.specs.Widths.{bytes}
-use Rattle.tok_lexical.proofs.Texts.{cut_length}
-use Rattle.tok_core.proofs.Lexical.Laws.{follows}
+use Rattle.tok_core.proofs.Lexical.Laws.{follows, follows_source, no_longer}
 use Rattle.tok_core.proofs.lexer.lex_source.Goals as goal
 
 pub overflow_sub-start : goal.overflow_sub-start
 overflow_sub-start c =
-    let cut = c.past_start-rest.ensures.cut in
-    let l = cut_length c.args.text.now c.past_start-rest.result.now cut.0 c.utf8.text
-    c.past_start-rest.utf8 cut.1 in
-    omega arith
+    no_longer c.args.text.now c.past_start-rest.result.now c.past_start-rest.ensures.cut
+    c.utf8.text c.past_start-rest.utf8
 
 pub returns : goal.returns
 returns c =
-    let cut = c.past_start-rest.ensures.cut in
-    let l = cut_length c.args.text.now c.past_start-rest.result.now cut.0 c.utf8.text
-    c.past_start-rest.utf8 cut.1 in
-    let same : length c.args.text.now - length c.past_start-rest.result.now ≡ bytes cut.0 =
-    omega arith in (
-      cut.0,
-      chars c.past_start-rest.result.now,
-      cut.1,
-      c.past_start-rest.ensures.begins,
-      rw (← same) (follows _ _ _ _ c.read_trees.result c.read_trees.ensures.reads
-          c.read_trees.ensures.refuses),
-    )
+    follows_source c.args.text.now c.past_start-rest.result.now c.past_start-rest.ensures.cut
+    c.utf8.text c.past_start-rest.utf8 c.args.edition c.args.source c.past_start-rest.ensures.begins
+    c.read_trees.result
+    (follows _ _ _ _ c.read_trees.result c.read_trees.ensures.reads c.read_trees.ensures.refuses)
