@@ -130,6 +130,21 @@ pub places_length : (n : ℕ) (s : List Forest) → length (places n s) ≡ leng
 places_length n [] = refl
 places_length n (f ∷ s) = cc (places_length (n + weight f + 1) s)
 
+-- Where a level is open, its place can be taken. `close` and `take_back` share these lemmas.
+module _ (xs : List Entry) (os : List ℕ) (old : Levels) (h : IsBuilt xs os (levels_in xs))
+    (e : levels_in xs ≡ old) (some : 0 < length old.outer) where
+  pub has_place : length os ≡ 0 → ⊥
+  has_place none =
+      let outer = ap (λ s. length s.outer) e in
+      omega (arith, some, none, outer, ap length h.1, places_length 0 (levels_in xs).outer)
+
+  module _ (ps : List ℕ) (n : ℕ) (o : os ≡ ps ++ n ∷ []) where
+    pub left_open : Left xs ps n (levels_in xs)
+    left_open = leaves_level xs os ps n (levels_in xs) h (rw e some) o
+
+    pub open_before : n < length xs
+    open_before = left_before xs ps n (levels_in xs) left_open
+
 module _ (xs ys : List Entry) (ps : List ℕ) (n k : ℕ) (s : Levels) (d : Delimiter) (p : Span)
     (h : Left xs ps n s) (q : k ≡ length xs) (y : ys ≡ xs ++ End (k - n) ∷ []) where
   pub built_close : IsBuilt (set ys n (Group (record { delimiter = d; span = p }) (k - n))) ps
