@@ -5,13 +5,14 @@ use Rattle.std.specs.Prelude.{◌==◌, encode_utf8_all}
 use Rattle.std.specs.List.{list_all}
 use Rattle.std.proofs.lemmas.Bool.{and_parts, not-true, or_parts}
 use Rattle.std.proofs.lemmas.Bool.Decides.{nat_tests}
-use Rattle.std.proofs.lemmas.Str.{encodes-append, encodes-IsAscii}
+use Rattle.std.proofs.lemmas.Str.{encodes-IsAscii}
 use Rattle.tok_lexical.specs.Pieces.{Skips}
 use Rattle.tok_lexical.specs.Scans.{IsAsciiTest}
 use Rattle.tok_values.specs.Private.Plain.{is_plain}
 use Rattle.tok_values.specs.Strings.{Means, nothing, more, unit}
 use Rattle.tok_values.proofs.Passing.{all_ascii}
 use Rattle.tok_values.proofs.Quoted.{plain_unit}
+use Rattle.tok_values.proofs.Units.{unit_more}
 
 -- beyond ASCII all of a text passes, and nothing of bytes
 pub plain_ascii_test : (wide : Bool) → IsAsciiTest (is_plain wide)
@@ -51,17 +52,33 @@ joined wide _ middle rest _ ys (more text after r front cs e m) n =
     (more text after rest front (cs ++ ys) e (joined wide after middle rest cs ys m n))
 
 -- a run after units
-pub run_more : (wide : Bool) (text middle rest characters front : List ℕ) →
+run_more : (wide : Bool) (text middle rest characters front : List ℕ) →
     Means wide text middle characters → Skips (is_plain wide) middle front rest →
     Means wide text rest (characters ++ front)
 run_more wide text middle rest characters front m s =
     joined wide text middle rest characters front m (run_means wide middle front rest s)
 
--- and in UTF-8
-pub run_encoded : (old new now characters front : List ℕ) →
-    new ≡ old ++ encode_utf8_all characters → now ≡ new ++ encode_utf8_all front →
-    now ≡ old ++ encode_utf8_all (characters ++ front)
-run_encoded old new now characters front e h = rw (h, e, encodes-append, append_assoc)
+-- so many characters are read and appended, in UTF-8 for a string and as they are for bytes
+abbrev pub Pushed : Bool → (List ℕ → List ℕ) → (text rest old new : List ℕ) → Type 0
+Pushed wide written text rest old new =
+    (characters : List ℕ) × Means wide text rest characters × (new ≡ old ++ written characters)
+
+-- one unit or one run more, in `push_text` and in `push_bytes`
+module _ (wide : Bool) (written : List ℕ → List ℕ)
+    (joins : (xs ys : List ℕ) → written (xs ++ ys) ≡ written xs ++ written ys)
+    (text rest after old now new : List ℕ) (front : List ℕ)
+    (so_far : Pushed wide written text rest old now) (n : new ≡ now ++ written front) where
+  more_written : new ≡ old ++ written (so_far.0 ++ front)
+  more_written = rw (n, so_far.2, joins, append_assoc)
+
+  pub unit_pushed : unit wide rest ≡ Some (front, after) →
+      Pushed wide written text after old new
+  unit_pushed e =
+      (so_far.0 ++ front, unit_more wide text rest after so_far.0 front so_far.1 e, more_written)
+
+  pub run_pushed : Skips (is_plain wide) rest front after → Pushed wide written text after old new
+  run_pushed skips =
+      (so_far.0 ++ front, run_more wide text rest after so_far.0 front so_far.1 skips, more_written)
 
 pub run_appended : (old new now characters front : List ℕ) → new ≡ old ++ characters →
     now ≡ new ++ front → now ≡ old ++ (characters ++ front)

@@ -1,9 +1,7 @@
 -- Units, one after another.
-use Rattle.std.proofs.Common.{◌≡◌, ◌∙◌, ℕ, List, [], ◌∷◌, ◌++◌, Option, Some, None, Bool, refl, sym}
+use Rattle.std.proofs.Common.{◌≡◌, ◌∙◌, ℕ, List, [], ◌++◌, Option, Some, None, Bool, refl, sym}
 use Rattle.std.proofs.Common.{append_assoc}
-use Rattle.std.specs.Prelude.{encode_utf8, encode_utf8_all}
 use Rattle.std.proofs.lemmas.List.{append-nil}
-use Rattle.std.proofs.lemmas.Str.{encodes-append}
 use Rattle.tok_values.specs.Strings.{Means, MeansBy, nothing, more, unit}
 use Rattle.std.proofs.lemmas.Option.{some_pair_parts}
 
@@ -34,9 +32,3 @@ pub unit_more : (wide : Bool) (text rest after characters front : List ℕ)
     → Means wide text rest characters
     → unit wide rest ≡ Some (front, after) → Means wide text after (characters ++ front)
 unit_more wide = more_by (unit wide)
-
--- one character more, as bytes
-pub encoded_more : (old new now : List ℕ) (characters : List ℕ) (c : ℕ)
-    → new ≡ old ++ encode_utf8_all characters
-    → now ≡ new ++ encode_utf8 c → now ≡ old ++ encode_utf8_all (characters ++ c ∷ [])
-encoded_more old new now characters c e h = rw (h, e, encodes-append, append-nil, append_assoc)

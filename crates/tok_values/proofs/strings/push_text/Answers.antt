@@ -1,10 +1,10 @@
-use Rattle.std.proofs.Common.{◌≡◌, ◌∙◌, ℕ, List, [], ◌∷◌, ◌++◌, Some, false, ap}
+use Rattle.std.proofs.Common.{◌∙◌, [], ◌∷◌, Some, false, ap, sym}
 use Rattle.std.specs.Prelude.{encode_utf8_all, string_bytes}
 use Rattle.std.specs.Str.{chars}
 use Rattle.std.proofs.lemmas.List.{append-nil}
-use Rattle.tok_values.specs.Strings.{Means, characters_of}
-use Rattle.tok_values.proofs.Runs.{run_encoded, run_means, run_more}
-use Rattle.tok_values.proofs.Units.{encoded_more, unit_more}
+use Rattle.std.proofs.lemmas.Str.{encodes-append}
+use Rattle.tok_values.specs.Strings.{characters_of}
+use Rattle.tok_values.proofs.Runs.{Pushed, run_means, run_pushed, unit_pushed}
 use Rattle.tok_values.proofs.strings.push_text.Goals as goal
 use Rattle.tok_values.proofs.strings.push_text.Goals.{in-Some-c+in_ok-push, in_default-c}
 
@@ -17,33 +17,23 @@ loop-c-init c =
 
 pub loop-c-preserved : goal.loop-c-preserved
 loop-c-preserved c =
-    let i = c.loop-c.invariant.1 in
     let text = chars c.args.text.now in
-    let rest = chars c.loop-c.rest.now in
     let after = chars c.in-Some.after.now in
+    let unit_more = unit_pushed false encode_utf8_all encodes-append text
+    (chars c.loop-c.rest.now) after (string_bytes c.args.to.now) _ (string_bytes c.match-c.to) in
     let finds = c.in-Some.ensures.finds in
-    let past : (characters : List ℕ) × Means false text after characters
-    × (string_bytes c.match-c.to ≡ string_bytes c.args.to.now ++ encode_utf8_all characters) =
+    let past : Pushed false encode_utf8_all text after (string_bytes c.args.to.now)
+    (string_bytes c.match-c.to) =
     elim c.match-c.branch [
-      | in-Some-c+in_ok-push w ↦ (
-        i.0 ++ w.in-Some-c.c ∷ [],
-        unit_more false text rest after i.0 (w.in-Some-c.c ∷ []) i.1
-            (finds ∙ ap (λ o. Some (characters_of o, after)) w.in-Some-c.is),
-        ap string_bytes w.to-is
-            ∙ encoded_more _ _ _ i.0 w.in-Some-c.c i.2 w.in_ok-push.ensures.bytes,
-      )
-      | in_default-c w ↦ (
-        i.0,
-        rw append-nil at (unit_more false text rest after i.0 [] i.1
-            (finds ∙ ap (λ o. Some (characters_of o, after)) w.in_default-c.is)),
-        ap string_bytes w.to-is ∙ i.2,
-      )
+      | in-Some-c+in_ok-push w ↦
+          unit_more (w.in-Some-c.c ∷ []) c.loop-c.invariant.1
+          (rw append-nil (ap string_bytes w.to-is ∙ w.in_ok-push.ensures.bytes))
+          (finds ∙ ap (λ o. Some (characters_of o, after)) w.in-Some-c.is)
+      | in_default-c w ↦
+          unit_more [] c.loop-c.invariant.1 (ap string_bytes w.to-is ∙ sym (append-nil _))
+          (finds ∙ ap (λ o. Some (characters_of o, after)) w.in_default-c.is)
     ] in
     let run = c.in_ok-rest-2.ensures.value in (
       c.in_ok-rest-2.ensures.utf8,
-      (
-        past.0 ++ run.0,
-        run_more false text after _ past.0 run.0 past.1 run.1,
-        run_encoded _ _ _ past.0 run.0 past.2 run.2,
-      ),
+      run_pushed false encode_utf8_all encodes-append text after _ _ _ _ run.0 past run.2 run.1,
     )
