@@ -227,10 +227,10 @@ impl Clone for Text {
     #[inline(always)]
     fn clone(&self) -> Result<Text, AllocError> {
         match &self.node {
-            Node::Short(len, bytes) => Ok(Text {
-                node: Node::Short(*len, *bytes),
-                alloc: self.alloc,
-            }),
+            Node::Short(_, _) => match self.copied_if_short() {
+                Some(short) => Ok(short),
+                None => unreachable!(),
+            },
             Node::Medium(block) => Ok(Text {
                 node: Node::Medium(block.clone()?),
                 alloc: self.alloc,
