@@ -109,7 +109,8 @@ fn push_plain<'a>(to: &mut String, text: &'a str) -> Result<&'a str, AllocError>
     Ok(rest)
 }
 
-// Does the same in bytes.
+// Does the same as `push_plain` in bytes. A trait of strings and vectors that reserve and append
+// would take more lines than both functions.
 #[inline(always)]
 fn push_plain_bytes<'a>(to: &mut Vec<u8>, text: &'a str) -> Result<&'a str, AllocError>
     ensures value { IfOk result (λ rest. (front : List ℕ)
