@@ -12,7 +12,7 @@ ghost use Rattle.tok_lexical.specs.declared.contents.Contents.TheVariants.{Text,
 use crate::char_literals::{past_byte, past_escaped, past_plain};
 use crate::contents::Contents;
 use crate::prefixes::past_number_signs;
-use crate::raw::past_raw_body;
+use crate::raw::{MOST_SIGNS, past_raw_body};
 use crate::strings::past_units;
 use crate::text::{begins_with, front_of, next_char, past_char, past_pair};
 use std::fmt::{self, Display, Formatter, Write};
@@ -251,7 +251,7 @@ fn raw_fault(hashes: &str, text: &str) -> Option<(QuotedFault, usize)>
     ensures within { IfSome result (λ found. found.1 ≡ 0) }
     ensures is { IsRawFault (chars hashes.now) (chars text.now) result }
 {
-    if hashes.len() > 255 {
+    if hashes.len() > MOST_SIGNS {
         return Some((QuotedFault::TooManyHashes, 0));
     }
     match past_raw_body(text, hashes) {

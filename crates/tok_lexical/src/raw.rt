@@ -10,6 +10,9 @@ use crate::prefixes::past_number_signs;
 use crate::text::{front_of, next_char, past_char, past_others};
 use crate::words::past_suffix;
 
+/// The most number signs that a raw string may have before its quote.
+pub(crate) const MOST_SIGNS: usize = 255;
+
 /// Returns `text` without the leading text `front`, or `None` if `text` does not begin with
 /// `front`.
 fn past_same<'a>(text: &'a str, front: &str) -> Option<&'a str>
@@ -60,7 +63,7 @@ fn past_raw_rest(text: &str) -> Option<&str>
 {
     let quote = past_number_signs(text);
     let hashes = front_of(text, quote);
-    if hashes.len() > 255 {
+    if hashes.len() > MOST_SIGNS {
         return None;
     }
     let start = past_char(quote, '"')?;

@@ -4,7 +4,7 @@ ghost use Rattle.std.specs.Str.{chars, IsUtf8};
 ghost use Rattle.tok_lexical.specs.RawQuotes.{InRawQuotes};
 
 use crate::prefixes::past_number_signs;
-use crate::raw::past_raw_body;
+use crate::raw::{MOST_SIGNS, past_raw_body};
 use crate::text::{front_of, past_char};
 
 /// Returns the text between the quotes of a raw string.
@@ -19,7 +19,7 @@ pub fn in_raw_quotes(text: &str) -> Option<&str>
 {
     let quote = past_number_signs(text);
     let hashes = front_of(text, quote);
-    if hashes.len() > 255 {
+    if hashes.len() > MOST_SIGNS {
         return None;
     }
     let start = past_char(quote, '"')?;

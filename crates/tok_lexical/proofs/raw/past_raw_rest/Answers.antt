@@ -7,15 +7,16 @@ pub returns-clause-tries : goal.returns-clause-tries
 returns-clause-tries c =
     let s = signs _ _ _ c.past_number_signs-quote.ensures c.front_of-hashes.ensures.is in
     let l = signs_length _ c.front_of-hashes.utf8 s.pass in
-    takes_raw _ _ _ s _ _ _ _ _ (omega (arith, c.if-hashes-gt255.false))
+    takes_raw _ _ _ s _ _ _ _ _ (omega (arith, c.if-hashes-gt-MOST_SIGNS.false))
     c.in_ok-start.ensures.chars c.in_ok-end.ensures.finds.1
     c.in_ok-end.ensures.finds.2 c.past_suffix.ensures.1
 
-pub returns-then-hashes-gt255-clause-tries : goal.returns-then-hashes-gt255-clause-tries
-returns-then-hashes-gt255-clause-tries c =
+pub returns-then-hashes-gt-MOST_SIGNS-clause-tries :
+    goal.returns-then-hashes-gt-MOST_SIGNS-clause-tries
+returns-then-hashes-gt-MOST_SIGNS-clause-tries c =
     let s = signs _ _ _ c.past_number_signs-quote.ensures c.front_of-hashes.ensures.is in
     let l = signs_length _ c.front_of-hashes.utf8 s.pass in
-    raw_long _ _ _ s (omega (arith, c.if-hashes-gt255.true))
+    raw_long _ _ _ s (omega (arith, c.if-hashes-gt-MOST_SIGNS.true))
 
 pub returns-in_err-start-clause-tries : goal.returns-in_err-start-clause-tries
 returns-in_err-start-clause-tries c =

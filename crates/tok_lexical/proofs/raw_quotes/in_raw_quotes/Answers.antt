@@ -8,7 +8,7 @@ pub overflow_sub-start : goal.overflow_sub-start
 overflow_sub-start c =
     let s = signs _ _ _ c.past_number_signs-quote.ensures c.front_of-hashes.ensures.is in
     let (contents, e, read) = quotes_found _ _ c.front_of-hashes.result.now c.in_ok-start.start.now
-    c.in_ok-end.end.now s c.front_of-hashes.utf8 (omega (arith, c.if-hashes-gt255.false))
+    c.in_ok-end.end.now s c.front_of-hashes.utf8 (omega (arith, c.if-hashes-gt-MOST_SIGNS.false))
     c.in_ok-start.ensures.chars (sym c.is_empty.ensures ∙ c.if-not-is_empty.false)
     c.in_ok-end.ensures.finds in
     omega (arith, closing_length _ _ contents c.in_ok-start.ensures.utf8 c.front_of-hashes.utf8 e)
@@ -17,7 +17,7 @@ pub overflow_sub-start-2 : goal.overflow_sub-start-2
 overflow_sub-start-2 c =
     let s = signs _ _ _ c.past_number_signs-quote.ensures c.front_of-hashes.ensures.is in
     let (contents, e, read) = quotes_found _ _ c.front_of-hashes.result.now c.in_ok-start.start.now
-    c.in_ok-end.end.now s c.front_of-hashes.utf8 (omega (arith, c.if-hashes-gt255.false))
+    c.in_ok-end.end.now s c.front_of-hashes.utf8 (omega (arith, c.if-hashes-gt-MOST_SIGNS.false))
     c.in_ok-start.ensures.chars (sym c.is_empty.ensures ∙ c.if-not-is_empty.false)
     c.in_ok-end.ensures.finds in
     omega (arith, closing_length _ _ contents c.in_ok-start.ensures.utf8 c.front_of-hashes.utf8 e)
@@ -26,7 +26,7 @@ pub split_at-requires : goal.split_at-requires
 split_at-requires c =
     let s = signs _ _ _ c.past_number_signs-quote.ensures c.front_of-hashes.ensures.is in
     let (contents, e, read) = quotes_found _ _ c.front_of-hashes.result.now c.in_ok-start.start.now
-    c.in_ok-end.end.now s c.front_of-hashes.utf8 (omega (arith, c.if-hashes-gt255.false))
+    c.in_ok-end.end.now s c.front_of-hashes.utf8 (omega (arith, c.if-hashes-gt-MOST_SIGNS.false))
     c.in_ok-start.ensures.chars (sym c.is_empty.ensures ∙ c.if-not-is_empty.false)
     c.in_ok-end.ensures.finds in
     closing_boundary _ _ contents c.in_ok-start.ensures.utf8 c.front_of-hashes.utf8 e
@@ -35,19 +35,20 @@ pub returns-clause-reads : goal.returns-clause-reads
 returns-clause-reads c =
     let s = signs _ _ _ c.past_number_signs-quote.ensures c.front_of-hashes.ensures.is in
     let (contents, e, read) = quotes_found _ _ c.front_of-hashes.result.now c.in_ok-start.start.now
-    c.in_ok-end.end.now s c.front_of-hashes.utf8 (omega (arith, c.if-hashes-gt255.false))
+    c.in_ok-end.end.now s c.front_of-hashes.utf8 (omega (arith, c.if-hashes-gt-MOST_SIGNS.false))
     c.in_ok-start.ensures.chars (sym c.is_empty.ensures ∙ c.if-not-is_empty.false)
     c.in_ok-end.ensures.finds in
     let same = contents_chars _ _ contents c.in_ok-start.ensures.utf8 c.front_of-hashes.utf8 e _
     c.split_at.ensures.front in
     rw same read
 
-pub returns-then-hashes-gt255-clause-reads : goal.returns-then-hashes-gt255-clause-reads
-returns-then-hashes-gt255-clause-reads c =
+pub returns-then-hashes-gt-MOST_SIGNS-clause-reads :
+    goal.returns-then-hashes-gt-MOST_SIGNS-clause-reads
+returns-then-hashes-gt-MOST_SIGNS-clause-reads c =
     let s = signs _ _ _ c.past_number_signs-quote.ensures c.front_of-hashes.ensures.is in
     let l = signs_length _ c.front_of-hashes.utf8 s.pass in
     λ contents h.
-    raw_long _ _ _ s (omega (arith, c.if-hashes-gt255.true)) (quotes_raw _ contents h)
+    raw_long _ _ _ s (omega (arith, c.if-hashes-gt-MOST_SIGNS.true)) (quotes_raw _ contents h)
 
 pub returns-in_err-start-clause-reads : goal.returns-in_err-start-clause-reads
 returns-in_err-start-clause-reads c =
