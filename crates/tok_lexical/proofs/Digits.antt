@@ -1,6 +1,8 @@
 -- Digits and suffixes.
 use Rattle.std.proofs.Common.{◌≡◌, ◌∙◌, ℕ, inl, inr, List, [], ◌∷◌, ◌++◌, refl, sym, ap}
-use Rattle.std.proofs.Common.{append_assoc, true, false, Bool, arith}
+use Rattle.std.proofs.Common.{append_assoc, true, false, Bool, arith, ◌<◌, ◌≤◌, rules, tests}
+use Rattle.tok_lexical.specs.Scans.{IsAsciiTest}
+use Rattle.tok_lexical.proofs.Runs.{ascii_test}
 use Rattle.std.specs.Prelude.{◌==◌, ◌||◌, Option, Some, None, unwrap_or}
 use Rattle.std.specs.Str.{chars}
 use Rattle.std.specs.List.{list_all}
@@ -125,6 +127,17 @@ digits_start text [] [] s g = absurd (false≢true (rw s.cut at g))
 digits_start text (c ∷ rest) [] s g =
     absurd (false≢true (sym s.stops ∙ or_left (is_digit c 10) (c == 95) (rw s.cut at g)))
 digits_start text rest (d ∷ digits) s g = rw s.cut at g
+
+decimal_low : (c : ℕ) → is_digit_or_underscore 10 c ≡ true → c < 128
+decimal_low c h = let l : c ≤ 95 = search (rules, tests) in omega arith
+
+pub decimals_ascii_test : IsAsciiTest (is_digit_or_underscore 10)
+decimals_ascii_test = ascii_test (is_digit_or_underscore 10) decimal_low
+
+-- a text that begins with a digit
+pub digit_first : (text rest : List ℕ) (c : ℕ) → text ≡ c ∷ rest → starts_digit text ≡ true →
+    is_digit_or_underscore 10 c ≡ true
+digit_first text rest c e g = or_left (is_digit c 10) (c == 95) (rw e at g)
 
 pub takes_no_suffix : (n : ℕ) (text : List ℕ) → ((piece after : List ℕ) → text ≡ piece ++ after →
     IsNumberSuffix n piece → piece ≡ []) → IsLongestPrefix (IsNumberSuffix n) text [] text

@@ -76,12 +76,11 @@ skips_more p text mid rest front c e a g h = (
   list_all_push p front c a h,
 )
 
--- a space and white space after it
-skips_space : (text mid rest : List ℕ) → text ≡ 32 ∷ mid → (front : List ℕ)
-    × Skips is_whitespace mid front rest → (longer : List ℕ) × Skips is_whitespace text longer
-    rest
-skips_space text mid rest e (front, s) =
-    (32 ∷ front, record { cut = cc (s.cut); pass = s.pass; stops = s.stops })
+-- a first character that passes, and those after it
+pub skips_after : (p : ℕ → Bool) (c : ℕ) (text mid rest : List ℕ) → text ≡ c ∷ mid → p c ≡ true →
+    (front : List ℕ) × Skips p mid front rest → (longer : List ℕ) × Skips p text longer rest
+skips_after p c text mid rest e h (front, s) =
+    (c ∷ front, record { cut = cc (s.cut); pass = rw h s.pass; stops = s.stops })
 
 -- after a space at the front, if there is one
 pub skips_first_space : (text : Bor (List ℕ)) (found : Option (Bor (List ℕ)))
@@ -93,7 +92,7 @@ pub skips_first_space : (text : Bor (List ℕ)) (found : Option (Bor (List ℕ))
 skips_first_space text None next rest e none skips =
     rw e at skips
 skips_first_space text (Some after) next rest e one skips =
-    skips_space (chars text.now) (chars after.now) rest one (rw e at skips)
+    skips_after is_whitespace 32 (chars text.now) (chars after.now) rest one refl (rw e at skips)
 
 -- no white space at the front
 pub skips_nothing : (text : List ℕ) → begins_visibly text ≡ true → (front : List ℕ)

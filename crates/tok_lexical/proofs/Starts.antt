@@ -1,11 +1,10 @@
 -- The table of the starts of ASCII characters, held against their definition.
-use Rattle.std.proofs.Common.{◌≡◌, ◌∙◌, refl, sym, ℕ, ◌<◌, ◌≤◌, Bool, get_or, ap, List}
-use Rattle.std.proofs.Common.{length, true, false, arith, rules, tests}
+use Rattle.std.proofs.Common.{◌≡◌, ◌∙◌, refl, sym, ℕ, ◌<◌, ◌≤◌, Bool, get_or, ap, List, ◌∷◌}
+use Rattle.std.proofs.Common.{true, false, arith, rules, tests}
 use Rattle.std.specs.Prelude.{◌==◌, ◌||◌, ◌&&◌, not, map, if◌then◌else◌}
 use Rattle.std.specs.List.{range_with_len}
-use Rattle.std.specs.Str.{chars, IsUtf8}
 use Rattle.std.proofs.lemmas.Bool.{eqb-true}
-use Rattle.tok_lexical.proofs.Texts.{begins_by, beyond_fails}
+use Rattle.tok_lexical.proofs.Texts.{none_begins}
 use Rattle.std.specs.Char.{is_digit, is_ascii_alphabetic}
 use Rattle.tok_lexical.proofs.Tables.{in_table}
 use Rattle.unicode_ident.proofs.IdentLemmas.{is_xid_start-ascii}
@@ -115,16 +114,10 @@ punct_starts c h =
           (punct_by c (punct_low c h) ∙ h),
     ) refl
 
-pub begins_letter_by : (text : List ℕ) (x : ℕ) → IsUtf8 text → 0 < length text →
-    x ≡ get_or text 0 0 → is_letter x ≡ begins_letter (chars text)
-begins_letter_by = begins_by is_letter letter_low begins_letter refl (λ c rest. refl)
+pub no_letter_begins : (text : List ℕ) →
+    ((c : ℕ) (more : List ℕ) → c < 128 → text ≡ c ∷ more → ⊥) → false ≡ begins_letter text
+no_letter_begins = none_begins is_letter letter_low begins_letter refl (λ c rest. refl)
 
-pub begins_punct_by : (text : List ℕ) (x : ℕ) → IsUtf8 text → 0 < length text →
-    x ≡ get_or text 0 0 → is_other_punct x ≡ begins_punct (chars text)
-begins_punct_by = begins_by is_other_punct punct_low begins_punct refl (λ c rest. refl)
-
-pub no_letter_beyond : (x : ℕ) → (x < 128 → ⊥) → is_letter x ≡ false
-no_letter_beyond = beyond_fails is_letter letter_low
-
-pub no_punct_beyond : (x : ℕ) → (x < 128 → ⊥) → is_other_punct x ≡ false
-no_punct_beyond = beyond_fails is_other_punct punct_low
+pub no_punct_begins : (text : List ℕ) →
+    ((c : ℕ) (more : List ℕ) → c < 128 → text ≡ c ∷ more → ⊥) → false ≡ begins_punct text
+no_punct_begins = none_begins is_other_punct punct_low begins_punct refl (λ c rest. refl)

@@ -119,10 +119,13 @@ nothing_beyond text z = rw (nothing_begins text z) refl
 
 -- a test of the first byte that only ASCII passes says the same of the first character
 module _ (is : ℕ → Bool) (low : (c : ℕ) → is c ≡ true → c < 128) where
-  pub begins_by : (begins : List ℕ → Bool) → begins [] ≡ false →
-      ((c : ℕ) (rest : List ℕ) → begins (c ∷ rest) ≡ is c) → (text : List ℕ) (x : ℕ) →
-      IsUtf8 text → 0 < length text → x ≡ get_or text 0 0 → is x ≡ begins (chars text)
-  begins_by = begins_as is (ascii_test is low)
-
   pub beyond_fails : (x : ℕ) → (x < 128 → ⊥) → is x ≡ false
   beyond_fails x beyond = false_from_ne_true (is x) (λ h. beyond (low x h))
+
+  -- a text that begins with no ASCII character
+  pub none_begins : (begins : List ℕ → Bool) → begins [] ≡ false →
+      ((c : ℕ) (rest : List ℕ) → begins (c ∷ rest) ≡ is c) → (text : List ℕ) →
+      ((c : ℕ) (more : List ℕ) → c < 128 → text ≡ c ∷ more → ⊥) → false ≡ begins text
+  none_begins begins none first [] absent = sym none
+  none_begins begins none first (c ∷ rest) absent =
+      sym (first c rest ∙ beyond_fails c (λ l. absent c rest l refl))

@@ -1,11 +1,17 @@
 -- White space, of which ASCII characters are found by their bytes.
 use Rattle.tok_lexical.proofs.Longest.{pass_weaker, skips_then}
 use Rattle.std.proofs.Common.{◌≡◌, ℕ, ◌<◌, ◌≤◌, List, [], ◌∷◌, ◌++◌, refl, true, false}
+use Rattle.std.proofs.Common.{Bool, inl, inr, get_or, sym, ◌∙◌}
 use Rattle.std.proofs.Common.{append_assoc, arith, rules, tests}
 use Rattle.std.specs.List.{list_all}
-use Rattle.std.proofs.lemmas.Bool.{leb-false, leb-true}
+use Rattle.std.specs.Prelude.{encode_utf8, encode_utf8_all, ◌==◌, ◌||◌}
+use Rattle.std.specs.Str.{chars, IsUtf8}
+use Rattle.std.proofs.lemmas.Str.{byte_from_char, encodes-chars}
+use Rattle.std.proofs.lemmas.Bool.{leb-false, leb-true, cases_lt, false_from_ne_true, false≢true}
+use Rattle.std.proofs.lemmas.Bool.{or_cases, eqb-true}
 use Rattle.std.proofs.lemmas.List.Folds.{list_all-append}
 use Rattle.tok_lexical.specs.Private.Fronts.{begins_beyond_ascii, is_ascii_whitespace}
+use Rattle.tok_lexical.specs.Private.Fronts.{begins_passing}
 use Rattle.tok_lexical.specs.Characters.{is_whitespace}
 use Rattle.tok_lexical.specs.Pieces.{Skips, Stops}
 use Rattle.tok_lexical.specs.Scans.{IsAsciiTest}
@@ -63,3 +69,48 @@ none_beyond text beyond = ([], record { cut = refl; pass = refl; stops = stops t
     stops : (cs : List ℕ) → begins_beyond_ascii cs ≡ true → Stops is_ascii_whitespace cs
     stops [] b = tt
     stops (c ∷ cs) b = let l : 128 ≤ c = leb-true 128 c b in search (rules, tests)
+
+-- white space beyond ASCII begins with one of two bytes
+module _ (c : ℕ) (rest : List ℕ) where
+  abbrev BeginsSo : ℕ → Type 0
+  BeginsSo d = (get_or (encode_utf8 d ++ rest) 0 0 == 0xC2)
+      || (get_or (encode_utf8 d ++ rest) 0 0 == 0xE2) ≡ true
+
+  or_this : (d : ℕ) (other : Bool) → BeginsSo d → (other ≡ true → BeginsSo c) →
+      other || (c == d) ≡ true → BeginsSo c
+  or_this d other this those h = elim (or_cases other (c == d) h) [
+    | inl is ↦ those is
+    | inr is ↦ rw (eqb-true c d is) this
+  ]
+
+  other_byte : 128 ≤ c → is_whitespace c ≡ true → BeginsSo c
+  unfolding lib.Utf8.encode
+  other_byte high =
+      or_this 0x2029 _ refl (or_this 0x2028 _ refl (or_this 0x200F _ refl
+      (or_this 0x200E _ refl (or_this 0x85 _ refl
+      (λ low. let l = blanks_low c low in absurd (omega arith))))))
+
+pub other_begins : (text : List ℕ) → IsUtf8 text → (get_or text 0 0 < 128 → ⊥) →
+    begins_passing is_whitespace (chars text) ≡ true →
+    (get_or text 0 0 == 0xC2) || (get_or text 0 0 == 0xE2) ≡ true
+other_begins text u beyond b = go (chars text) (encodes-chars text u) b
+  where
+    go : (cs : List ℕ) → encode_utf8_all cs ≡ text → begins_passing is_whitespace cs ≡ true →
+        (get_or text 0 0 == 0xC2) || (get_or text 0 0 == 0xE2) ≡ true
+    go [] e b = absurd (false≢true b)
+    go (c ∷ cs) e b = elim (cases_lt c 128) [
+      | inl low ↦ absurd (beyond (rw (byte_from_char text (encode_utf8_all cs) c (sym e) low) low))
+      | inr high ↦ rw (← e) (other_byte c (encode_utf8_all cs) high b)
+    ]
+
+-- and no white space begins where none may
+pub none_may_begin : (text : List ℕ) (may : Bool) → may ≡ false →
+    (begins_passing is_whitespace text ≡ true → may ≡ true) → (front : List ℕ)
+    × Skips is_whitespace text front text
+none_may_begin text may never told =
+    ([], record { cut = refl; pass = refl; stops = stops text told })
+  where
+    stops : (cs : List ℕ) → (begins_passing is_whitespace cs ≡ true → may ≡ true) →
+        Stops is_whitespace cs
+    stops [] h = tt
+    stops (c ∷ cs) h = false_from_ne_true (is_whitespace c) (λ w. false≢true (sym never ∙ h w))

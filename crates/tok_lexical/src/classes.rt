@@ -1,7 +1,7 @@
 //! White space, punctuation characters, and the characters that open and close groups.
-ghost use Rattle.std.specs.Prelude.{◌≡◌, ◌≤◌, ℕ, List, length};
+ghost use Rattle.std.specs.Prelude.{◌≡◌, ◌≤◌, ℕ, List, length, true};
 ghost use Rattle.std.specs.Str.{chars};
-ghost use Rattle.tok_lexical.specs.Private.Fronts.{is_ascii_whitespace, begins_visibly};
+ghost use Rattle.tok_lexical.specs.Private.Fronts.{is_ascii_whitespace, begins_passing, begins_visibly};
 ghost use Rattle.tok_lexical.specs.Characters.{is_whitespace, is_punct, is_punct_or_apostrophe, opening_mark, closing_mark};
 ghost use Rattle.tok_lexical.specs.Delimiters.{is_invisible};
 ghost use Rattle.tok_lexical.specs.Pieces.{Skips};
@@ -85,16 +85,31 @@ fn past_any_whitespace(text: &str) -> &str
 ///
 /// The caller has checked that `text` begins with a character beyond ASCII.
 // Kept out of line, so that what comes before it is inlined. Most characters beyond ASCII are no
-// white space: they are told here, without the loop.
+// white space: nearly all are told here by their first byte.
 #[inline(never)]
 fn past_beyond_ascii(text: &str) -> &str
     ensures skips { (front : List ℕ)
         × Skips is_whitespace (chars text.now) front (chars result.now) }
     ensures shorter { length result.now ≤ length text.now }
 {
+    if !may_begin_whitespace(text) {
+        return text;
+    }
     match next_char(text) {
-        Some((c, _)) if is_whitespace(c) => past_other_whitespace(text),
+        Some((c, rest)) if is_whitespace(c) => past_other_whitespace(rest),
         _ => text,
+    }
+}
+
+/// Returns `false` only if the first byte of `text` begins no white space.
+// White space beyond ASCII begins with 0xC2 or 0xE2. No character begins with 0x80 to 0xC1.
+#[inline(always)]
+fn may_begin_whitespace(text: &str) -> bool
+    ensures { begins_passing is_whitespace (chars text.now) ≡ true → result ≡ true }
+{
+    match text.as_bytes().first() {
+        Some(byte) => *byte <= 0xC2 || *byte == 0xE2,
+        None => false,
     }
 }
 
@@ -111,7 +126,7 @@ fn past_other_whitespace(text: &str) -> &str
         if !is_whitespace(c) {
             break;
         }
-        rest = past_run(after, &Blanks);
+        rest = past_ascii_whitespace(after);
     }
     rest
 }

@@ -6,9 +6,7 @@ ghost use Rattle.tok_lexical.specs.Comments.{is_not_line_feed, IsLineComment, Is
 ghost use Rattle.tok_lexical.specs.Contents.{has_return};
 ghost use Rattle.tok_lexical.specs.Docs.{is_inner_doc, line_doc_text, breaks_line, block_doc_text};
 
-use crate::text::{
-    begins_with, front_of, next_char, past_char, past_first, past_others, past_pair, up_to,
-};
+use crate::text::{begins_with, front_of, next_char, past_char, past_first, past_others, up_to};
 
 /// Returns the part of `text` that begins at the first line feed.
 ///
@@ -27,7 +25,8 @@ pub fn past_line_comment(text: &str) -> Option<&str>
     ensures tries { ReadsLongest IsLineComment (chars text.now) result }
     ensures utf8 { IfSome result (λ rest. IsUtf8 rest.now) }
 {
-    Some(past_line(past_pair(text, '/', '/')?))
+    let body = past_char(past_char(text, '/')?, '/')?;
+    Some(past_line(body))
 }
 
 /// Returns the rest of `text` after a leading `/* .. */` comment, which may contain nested
@@ -39,7 +38,8 @@ pub fn past_block_comment(text: &str) -> Option<&str>
     ensures tries { ReadsLongest IsBlockComment (chars text.now) result }
     ensures utf8 { IfSome result (λ rest. IsUtf8 rest.now) }
 {
-    past_block(past_pair(text, '/', '*')?)
+    let body = past_char(past_char(text, '/')?, '*')?;
+    past_block(body)
 }
 
 /// Returns the rest of `text` after the end of a block comment. `text` begins after the `/*` of the

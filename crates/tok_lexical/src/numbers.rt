@@ -1,10 +1,11 @@
 //! Functions that skip integers.
-ghost use Rattle.std.specs.Prelude.{◌≡◌, ℕ, ◌≤◌, List, IfSome, length};
+ghost use Rattle.std.specs.Prelude.{◌≡◌, ℕ, ◌≤◌, List, IfSome, length, true};
 ghost use Rattle.std.specs.Str.{chars, IsUtf8};
 ghost use Rattle.tok_lexical.specs.Pieces.{IsLongestPrefix, ReadsLongest, Skips};
 ghost use Rattle.tok_lexical.specs.Numbers.{base_mark, radix, is_digit_or_underscore, is_exponent, starts_digit, is_fraction, starts_number_suffix, IsNumberSuffix, IsNumber, has_digit, IsBased, IsDecimal, is_bare, is_malformed, is_float};
 
-use crate::text::{next_char, past_pair};
+use crate::scan::Decimals;
+use crate::text::{next_ascii, next_char, past_pair, past_rare_run};
 use crate::words::{is_identifier_start, past_identifier, starts_name};
 
 /// The base of an integer literal that begins with `0x`, `0o` or `0b`.
@@ -66,15 +67,34 @@ pub fn past_digits(text: &str, radix: u32) -> (bool, &str)
 {
     let mut rest = text;
     let mut found = false;
-    while let Some((c, after)) = next_char(rest) {
-        let is_digit = c.is_digit(radix);
-        if !is_digit && c != '_' {
+    while let Some((c, after)) = next_ascii(rest) {
+        if c.is_digit(radix) {
+            found = true;
+        } else if c != '_' {
             break;
         }
-        found |= is_digit;
         rest = after;
     }
     (found, rest)
+}
+
+/// Returns `text` without its leading decimal digits and underscores.
+///
+/// # Requires
+///
+/// `text` must begin with a decimal digit.
+// Most numbers are one digit, and no 16 bytes are loaded after it. Kept out of line: in the lexer's
+// loop it would take registers from names.
+#[inline(never)]
+pub(crate) fn past_decimals(text: &str) -> &str
+    requires { starts_digit (chars text.now) ≡ true }
+    ensures { (front : List ℕ)
+        × Skips (is_digit_or_underscore 10) (chars text.now) front (chars result.now) }
+{
+    match next_ascii(text) {
+        Some((_, rest)) => past_rare_run(rest, &Decimals),
+        None => unreachable!(),
+    }
 }
 
 fn starts_number_suffix(c: char, radix: u32) -> bool
@@ -159,8 +179,7 @@ pub fn past_decimal(text: &str) -> Option<&str>
     if !starts_digit(text) {
         return None;
     }
-    let (_, rest) = past_digits(text, 10);
-    Some(past_number_suffix(rest, 10))
+    Some(past_number_suffix(past_decimals(text), 10))
 }
 
 /// Returns `true` if `text` begins with `e` or `E`.

@@ -21,7 +21,7 @@ use crate::delimiter::Delimiter;
 use crate::edition::Edition;
 use crate::floats::{past_exponent, past_float, past_fraction, past_pointed};
 use crate::joint::begins_comment;
-use crate::numbers::{Base, past_based, past_decimal, past_digits, past_number_suffix};
+use crate::numbers::{Base, past_based, past_decimal, past_decimals, past_number_suffix};
 use crate::prefixes::{past_prefix_of, past_string_prefix};
 use crate::raw::past_raw_string;
 use crate::start::{Start, begins_letter, begins_punct};
@@ -207,7 +207,7 @@ impl Mode {
             (chars result.1.now) }
         ensures utf8 { IsUtf8 result.1.now }
     {
-        let (_, rest) = past_digits(text, 10);
+        let rest = past_decimals(text);
         match self {
             Mode::Source(_) => source_decimal(text, rest),
             Mode::Plain | Mode::Marked => (Rule::Decimal, past_number_suffix(rest, 10)),

@@ -1,5 +1,6 @@
 //! Tests of bytes, 16 bytes at a time.
 ghost use Rattle.std.specs.Prelude.{◌≡◌, ℕ, ◌+◌, ◌≤◌, Bool, length, not, count_by};
+ghost use Rattle.tok_lexical.specs.Numbers.{is_digit_or_underscore};
 ghost use Rattle.tok_lexical.specs.Pieces.{is_neither};
 ghost use Rattle.tok_lexical.specs.Scans.{failing_bits};
 ghost use Rattle.tok_lexical.specs.Private.Fronts.{is_ascii_continue, is_ascii_whitespace};
@@ -37,6 +38,10 @@ pub(crate) struct Others {
 /// A test for ASCII characters that may continue an identifier.
 #[derive(Drop)]
 pub(crate) struct Continues;
+
+/// A test for decimal digits and underscores.
+#[derive(Drop)]
+pub(crate) struct Decimals;
 
 /// A test for ASCII white space.
 #[derive(Drop)]
@@ -80,6 +85,22 @@ impl ByteTest for Continues {
         let stops = from_a.simd_ge(u8x16::splat(26))
             & from_zero.simd_ge(u8x16::splat(10))
             & bytes.simd_ne(u8x16::splat(b'_'));
+        stops.to_bitmask()
+    }
+}
+
+impl ByteTest for Decimals {
+    ghost passes = { λ _. is_digit_or_underscore 10 };
+
+    #[inline(always)]
+    fn holds(&self, byte: u8) -> bool {
+        byte.is_ascii_digit() || byte == b'_'
+    }
+
+    #[inline(always)]
+    fn fails(&self, bytes: u8x16) -> u64 {
+        let from_zero = bytes - u8x16::splat(b'0');
+        let stops = from_zero.simd_ge(u8x16::splat(10)) & bytes.simd_ne(u8x16::splat(b'_'));
         stops.to_bitmask()
     }
 }

@@ -6,6 +6,7 @@ ghost use Rattle.tok_lexical.specs.Starts.{begins_letter, begins_punct};
 
 use crate::classes::is_whitespace;
 use crate::delimiter::Delimiter;
+use crate::text::next_ascii;
 use crate::words::is_identifier_start;
 
 /// A class of characters that can begin a text.
@@ -40,8 +41,8 @@ static ASCII: [u8; 128] = *b"\
 pub fn begins_letter(text: &str) -> bool
     ensures { result ≡ begins_letter (chars text.now) }
 {
-    match text.as_bytes().first() {
-        Some(byte) => *byte < 0x80 && ASCII[*byte as usize] == b'a',
+    match next_ascii(text) {
+        Some((first, _)) => ASCII[first as usize] == b'a',
         None => false,
     }
 }
@@ -51,8 +52,8 @@ pub fn begins_letter(text: &str) -> bool
 pub fn begins_punct(text: &str) -> bool
     ensures { result ≡ begins_punct (chars text.now) }
 {
-    match text.as_bytes().first() {
-        Some(byte) => *byte < 0x80 && ASCII[*byte as usize] == b'+',
+    match next_ascii(text) {
+        Some((first, _)) => ASCII[first as usize] == b'+',
         None => false,
     }
 }

@@ -61,6 +61,27 @@ pub fn past_char(text: &str, ch: char) -> Option<&str>
     }
 }
 
+/// Returns the first character of `text` and the rest of `text`.
+///
+/// Returns `None` if `text` does not begin with an ASCII character.
+#[inline(always)]
+pub(crate) fn next_ascii(text: &str) -> Option<(char, &str)>
+    ensures chars { MatchOption result
+        ((c : ℕ) → (more : List ℕ) → c < 128 → chars text.now ≡ c ∷ more → ⊥)
+        (λ r. chars text.now ≡ r.0 ∷ chars r.1.now) }
+    ensures ascii { IfSome result (λ r. r.0 < 128) }
+    ensures utf8 { IfSome result (λ r. IsUtf8 r.1.now) }
+    ensures shorter { IfSome result (λ r. length r.1.now < length text.now) }
+{
+    let first = text.as_bytes().first()?;
+    if first.is_ascii() {
+        let (_, rest) = text.split_at(1);
+        Some((*first as char, rest))
+    } else {
+        None
+    }
+}
+
 /// Returns `true` if `text` begins with the character `ch`.
 ///
 /// # Requires
@@ -183,6 +204,26 @@ pub(crate) fn past_run<'a, S: ByteTest>(text: &'a str, test: &S) -> &'a str
 {
     let (_, rest) = text.split_at(front_run(test, text.as_bytes()));
     rest
+}
+
+/// Returns the same as `past_run`, and tests the first byte before it loads 16.
+///
+/// # Requires
+///
+/// Either all bytes that are not ASCII must pass the test, or none of them.
+// For runs that are mostly empty.
+#[inline(always)]
+pub(crate) fn past_rare_run<'a, S: ByteTest>(text: &'a str, test: &S) -> &'a str
+    requires ascii { IsAsciiTest (S.passes test.now) }
+    ensures skips { (front : List ℕ)
+        × Skips (S.passes test.now) (chars text.now) front (chars result.now) }
+    ensures shorter { length result.now ≤ length text.now }
+{
+    if begins_run(text, test) {
+        past_run(text, test)
+    } else {
+        text
+    }
 }
 
 /// Returns the part of `text` that begins at the first `one` or `other`.

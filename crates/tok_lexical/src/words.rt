@@ -5,10 +5,9 @@ ghost use Rattle.unicode_ident.specs.Ident.{is_xid_continue};
 ghost use Rattle.tok_lexical.specs.Following.{starts_name};
 ghost use Rattle.tok_lexical.specs.Pieces.{After, IsLongestPrefix, ReadsLongest, Skips};
 ghost use Rattle.tok_lexical.specs.Words.{IsIdentifier, IsRawIdentifier, IsName, IsSuffix, is_identifier_start, has_no_raw, is_missing_raw, is_plain, is_raw_prefix};
-ghost use Rattle.tok_lexical.specs.Private.Fronts.{is_ascii_continue};
 
 use crate::scan::{ByteTest, Continues};
-use crate::text::{begins_beyond_ascii, begins_run, next_char, past_char, past_pair, past_run};
+use crate::text::{begins_beyond_ascii, next_char, past_char, past_pair, past_rare_run};
 use unicode_ident::{is_xid_continue, is_xid_start};
 
 /// Returns `true` if `c` may begin an identifier.
@@ -63,25 +62,13 @@ fn past_any_continues(text: &str) -> &str
     rest
 }
 
-// Returns the text after the ASCII characters at the front that may go on in an identifier.
-// Many names are one letter, and no run is looked for after those.
-#[inline(always)]
-fn past_ascii_continues(text: &str) -> &str
-    ensures { (front : List ℕ) × Skips is_ascii_continue (chars text.now) front (chars result.now) }
-{
-    if begins_run(text, &Continues) {
-        past_run(text, &Continues)
-    } else {
-        text
-    }
-}
-
 /// Returns `text` without its leading characters that may continue an identifier.
 #[inline(always)]
 pub fn past_continues(text: &str) -> &str
     ensures { (front : List ℕ) × Skips is_xid_continue (chars text.now) front (chars result.now) }
 {
-    let rest = past_ascii_continues(text);
+    // Many names are one letter, and no run is looked for after those.
+    let rest = past_rare_run(text, &Continues);
     if begins_beyond_ascii(rest) {
         past_any_continues(rest)
     } else {

@@ -12,8 +12,7 @@ use Rattle.std.proofs.lemmas.Str.{encode_ascii, encodes-chars, inside_one}
 use Rattle.tok_lexical.specs.Numbers.{is_digit_or_underscore, starts_digit}
 use Rattle.tok_lexical.specs.Scans.{IsAsciiTest}
 use Rattle.tok_lexical.specs.Private.Scans.{AllPass}
-use Rattle.tok_lexical.proofs.Runs.{ascii_test}
-use Rattle.tok_lexical.proofs.Texts.{begins_by}
+use Rattle.tok_lexical.proofs.Runs.{ascii_test, begins_as}
 use Rattle.tok_values.specs.Numbers.{number}
 use Rattle.tok_values.proofs.Digits.{step}
 
@@ -29,8 +28,10 @@ digits_ascii_test radix h =
 
 pub first_digit : (text : List ℕ) (x : ℕ) → IsUtf8 text → 0 < length text → x ≡ get_or text 0 0 →
     is_digit x 10 ≡ starts_digit (chars text)
-first_digit = begins_by (λ c. is_digit c 10) (λ c p. digit_low 10 c (omega arith) p) starts_digit
-    refl (λ c rest. refl)
+first_digit =
+    begins_as (λ c. is_digit c 10)
+    (ascii_test (λ c. is_digit c 10) (λ c p. digit_low 10 c (omega arith) p)) starts_digit refl
+    (λ c rest. refl)
 
 module _ (radix : ℕ) (small : radix ≤ 16) where
   fold_none : (xs : List ℕ) (n : ℕ) → ((k : ℕ) → k < length xs →

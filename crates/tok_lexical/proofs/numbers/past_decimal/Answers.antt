@@ -9,6 +9,6 @@ returns-then-not-starts_digit-clause-tries c = none_decimal _ _ (sym c.starts_di
 
 pub returns-clause-tries : goal.returns-clause-tries
 returns-clause-tries c = takes_run 10 starts_digit (IsNumberSuffix 10) (suffix_stops 10) _ _ _
-    c.past_digits.ensures.skips.0 _ c.past_digits.ensures.skips.1
-    (digits_start _ _ _ c.past_digits.ensures.skips.1 (sym c.starts_digit.ensures
+    c.past_decimals.ensures.0 _ c.past_decimals.ensures.1
+    (digits_start _ _ _ c.past_decimals.ensures.1 (sym c.starts_digit.ensures
     ∙ c.if-not-starts_digit.false)) c.past_number_suffix.ensures.1

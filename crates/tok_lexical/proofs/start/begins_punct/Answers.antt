@@ -1,27 +1,12 @@
-use Rattle.std.proofs.Common.{◌≡◌, ◌<◌, ◌∙◌, sym, ap, length, get_or, arith, rules}
-use Rattle.std.proofs.lemmas.Bool.{le-ltb}
+use Rattle.std.proofs.Common.{◌∙◌, sym, ap}
 use Rattle.tok_lexical.specs.Starts.{begins_punct}
-use Rattle.tok_lexical.proofs.Starts.{begins_punct_by, punct_by, no_punct_beyond}
-use Rattle.tok_lexical.proofs.Texts.{nothing_begins}
+use Rattle.tok_lexical.proofs.Starts.{punct_by, no_punct_begins}
 use Rattle.tok_lexical.proofs.start.begins_punct.Goals as goal
 
-pub returns-then-byte-lt128 : goal.returns-then-byte-lt128
-returns-then-byte-lt128 c =
-    let some : 0 < length c.args.text.now = search rules in
-    let is : c.in-Some.byte.now ≡ get_or c.args.text.now 0 0 = search rules in
-    punct_by c.in-Some.byte.now c.if-byte-lt128.true
-    ∙ begins_punct_by c.args.text.now c.in-Some.byte.now c.utf8.text some is
-
-pub returns-else-byte-lt128 : goal.returns-else-byte-lt128
-returns-else-byte-lt128 c =
-    let some : 0 < length c.args.text.now = search rules in
-    let is : c.in-Some.byte.now ≡ get_or c.args.text.now 0 0 = search rules in
-    let beyond = c.if-byte-lt128.false in
-    le-ltb c.in-Some.byte.now 128 beyond
-    ∙ sym (no_punct_beyond c.in-Some.byte.now (λ l. absurd (omega arith)))
-    ∙ begins_punct_by c.args.text.now c.in-Some.byte.now c.utf8.text some is
+pub returns-in-Some : goal.returns-in-Some
+returns-in-Some c =
+    punct_by c.in-Some.first c.in-Some.ensures.ascii
+    ∙ sym (ap begins_punct c.in-Some.ensures.chars)
 
 pub returns-in-None : goal.returns-in-None
-returns-in-None c =
-    let none : length c.args.text.now ≡ 0 = search rules in
-    sym (ap begins_punct (nothing_begins c.args.text.now none))
+returns-in-None c = no_punct_begins _ c.in-None.ensures.chars

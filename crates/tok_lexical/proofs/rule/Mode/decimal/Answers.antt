@@ -7,7 +7,7 @@ returns-in-Source-clause-fits c = rw c.in-Source.is c.source_decimal.ensures.fit
 
 pub returns-in-Plain : goal.returns-in-Plain
 returns-in-Plain c =
-    let fits = decimal_only _ _ _ c.past_digits.ensures.skips.1 c.requires _ _
+    let fits = decimal_only _ _ _ c.past_decimals-rest.ensures.1 c.requires _ _
     c.past_number_suffix.ensures.1 in
     record {
       fits = elim c.in-Plain.is [ inl plain ↦ rw plain fits | inr marked ↦ rw marked fits ];

@@ -1,0 +1,16 @@
+use Rattle.std.proofs.Common.{◌≡◌, ◌<◌, length, get_or, rules, arith}
+use Rattle.tok_lexical.proofs.Texts.{nothing_begins}
+use Rattle.tok_lexical.proofs.WhiteSpace.{other_begins}
+use Rattle.tok_lexical.proofs.classes.may_begin_whitespace.Goals as goal
+
+pub returns-else-byte-le194 : goal.returns-else-byte-le194
+returns-else-byte-le194 c begins =
+    let is : c.in-Some.byte.now ≡ get_or c.args.text.now 0 0 = search rules in
+    let high : 0xC2 < c.in-Some.byte.now = omega (arith, c.if-byte-le194.false) in
+    let told = other_begins c.args.text.now c.utf8.text (λ low. omega (arith, is, high)) begins in
+    grind (arith, is, high, told)
+
+pub returns-in-None : goal.returns-in-None
+returns-in-None c begins =
+    let none : length c.args.text.now ≡ 0 = search rules in
+    rw (nothing_begins c.args.text.now none) at begins
