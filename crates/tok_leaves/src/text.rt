@@ -226,11 +226,11 @@ impl Clone for Text {
     // Inlined: nearly all texts are short, and are copied as they lie.
     #[inline(always)]
     fn clone(&self) -> Result<Text, AllocError> {
+        if let Some(short) = self.copied_if_short() {
+            return Ok(short);
+        }
         match &self.node {
-            Node::Short(_, _) => match self.copied_if_short() {
-                Some(short) => Ok(short),
-                None => unreachable!(),
-            },
+            Node::Short(_, _) => unreachable!(),
             Node::Medium(block) => Ok(Text {
                 node: Node::Medium(block.clone()?),
                 alloc: self.alloc,
