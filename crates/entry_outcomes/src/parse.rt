@@ -3,12 +3,12 @@ ghost use Rattle.std.specs.Prelude.{◌≡◌};
 ghost use Rattle.std.specs.Fn.{FnOnceReturnsAtMut, FnOnceTakesAtMut};
 ghost use Rattle.tok_core.specs.Forest.{Forest};
 ghost use Rattle.tok_leaves.specs.Spans.{call_site};
-ghost use Rattle.syn_parse.specs.Parsers.{Finishes, ParsesWhole, whole_stream};
+ghost use Rattle.syn_parse.specs.Parsers.{ParsesWhole, whole_stream};
 ghost use Rattle.entry_outcomes.specs.Parsed.{ParsesEntries, result_of};
 
 use crate::intake::read_entries;
 use std::alloc::{AllocError, Global};
-use syn_parse::{Fault, ParseBuffer, ParseStream, tokens_to_parse_buffer};
+use syn_parse::{Fault, ParseStream, tokens_to_parse_buffer};
 use tok_buffer::{Error, TokenBuffer};
 use tok_core::Span;
 use tok_entries::{Entry, EntryFault, Refusal};
@@ -75,23 +75,7 @@ fn parse_buffer<T: Drop, F: FnOnce(ParseStream<'_, '_>) -> syn_parse::Result<T>>
 {
     let mut input = tokens_to_parse_buffer(alloc, buffer, Span::call_site());
     let parsed = parser(&mut input);
-    settle(parsed, input)
-}
-
-// Returns the parser's error, or else that of a leftover, or else the value.
-fn settle<T: Drop>(parsed: syn_parse::Result<T>, input: ParseBuffer<'_>) -> syn_parse::Result<T>
-    ensures { Finishes parsed input.entry result }
-{
-    match parsed {
-        Ok(value) => {
-            input.finish()?;
-            Ok(value)
-        }
-        Err(fault) => {
-            input.discard();
-            Err(fault)
-        }
-    }
+    input.finish_parsed(parsed)
 }
 
 // Returns the result of a parser as one of entries.

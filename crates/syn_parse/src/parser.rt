@@ -4,7 +4,7 @@ ghost use Rattle.std.specs.Str.{chars};
 ghost use Rattle.std.specs.Fn.{FnOnceReturnsAtMut, FnOnceTakesAtMut};
 ghost use Rattle.tok_buffer.specs.Place.{start};
 ghost use Rattle.tok_leaves.specs.Spans.{call_site};
-ghost use Rattle.syn_parse.specs.Parsers.{Finishes, IsExplained, IsUnread, OnText, ParsesText, ParsesWhole, whole_stream};
+ghost use Rattle.syn_parse.specs.Parsers.{IsExplained, IsUnread, OnText, ParsesText, ParsesWhole, whole_stream};
 ghost use Rattle.syn_parse.specs.Sources.{OnSource, OnTextOf, ParsesSource, ParsesTextOf, end_of_span, end_of_tokens};
 ghost use Rattle.syn_parse.specs.State.{State, fresh};
 ghost use Rattle.syn_parse.specs.declared.fault.Fault.{Fault};
@@ -114,7 +114,7 @@ where
             Ok(buffer) => {
                 let mut input = tokens_to_parse_buffer(alloc, &buffer, Span::call_site());
                 let parsed = self(&mut input);
-                settle(parsed, input)
+                input.finish_parsed(parsed)
             }
             Err(fault) => Err(unread(alloc, fault)),
         }
@@ -125,7 +125,7 @@ where
             Ok(buffer) => {
                 let mut input = source_stream(alloc, &buffer, number);
                 let parsed = self(&mut input);
-                settle(parsed, input)
+                input.finish_parsed(parsed)
             }
             Err(fault) => Err(explained(alloc, text, fault)),
         }
@@ -136,7 +136,7 @@ where
             Ok(buffer) => {
                 let mut input = source_stream(alloc, &buffer, 0);
                 let parsed = self(&mut input);
-                settle(parsed, input)
+                input.finish_parsed(parsed)
             }
             Err(fault) => Err(explained(alloc, text, fault)),
         }
@@ -146,7 +146,7 @@ where
         let buffer = TokenBuffer::new2(alloc, 0, tokens)?;
         let mut input = tokens_to_parse_buffer(alloc, &buffer, scope);
         let parsed = self(&mut input);
-        settle(parsed, input)
+        input.finish_parsed(parsed)
     }
 }
 
@@ -171,22 +171,6 @@ fn end_of_span(number: u32, span: Span) -> Span
     match span.as_range() {
         Some((source, _, end)) => Span::source(source, end, end),
         None => Span::source(number, 0, 0),
-    }
-}
-
-// Returns the parser's error, or else that of a leftover, or else the value.
-pub(crate) fn settle<T: Drop>(parsed: Result<T>, input: ParseBuffer<'_>) -> Result<T>
-    ensures { Finishes parsed input.entry result }
-{
-    match parsed {
-        Ok(value) => {
-            input.finish()?;
-            Ok(value)
-        }
-        Err(fault) => {
-            input.discard();
-            Err(fault)
-        }
     }
 }
 

@@ -7,6 +7,7 @@ ghost use Rattle.tok_buffer.specs.Cursors.{place_of};
 ghost use Rattle.tok_buffer.specs.Order.{same_scope};
 ghost use Rattle.tok_buffer.specs.Place.{start, is_at_end};
 ghost use Rattle.syn_parse.specs.Faults.{Refuses, RefusesAt, FailsWith};
+ghost use Rattle.syn_parse.specs.Parsers.{Finishes};
 ghost use Rattle.syn_parse.specs.State.{fresh, moved, handed, closed, forked, advanced, state_span};
 ghost use Rattle.syn_parse.specs.ErrorWords.{expected, refused_at, leftover_message};
 ghost use Rattle.syn_parse.specs.Takes.{SaysAt, missing_next};
@@ -27,9 +28,9 @@ use tok_core::{Delimiter, Span};
 /// group. Contracts describe a stream as its position, the span of the end of its scope, and a
 /// leftover. The leftover is the first token that was left unread in a closed group.
 ///
-/// Each stream must be ended with `close`, `discard`, `advance_to`, `finish` or `pause`. A function
-/// that lets a stream go out of scope, even through an early `?`, does not compile. A parser can
-/// therefore not ignore unread tokens by mistake.
+/// Each stream must be ended with `close`, `discard`, `advance_to`, `finish`, `finish_parsed` or
+/// `pause`. A function that lets a stream go out of scope, even through an early `?`, does not
+/// compile. A parser can therefore not ignore unread tokens by mistake.
 pub struct ParseBuffer<'a> {
     alloc: Global,
     cursor: Cursor<'a>,
@@ -319,6 +320,26 @@ impl<'a> ParseBuffer<'a> {
                 let (_, leftover) = words_of(delimiter);
                 let error = Error::new(alloc, span, leftover);
                 Err(Fault::refused(error))
+            }
+        }
+    }
+
+    /// Ends the stream after a parser returned `parsed`, and returns the result of parsing all of its
+    /// tokens.
+    ///
+    /// If `parsed` is an error, returns this error. If `parsed` is a value, checks the stream in the
+    /// same way as `finish`, and returns the value or the error of `finish`.
+    pub fn finish_parsed<T: Drop>(self, parsed: Result<T>) -> Result<T>
+        ensures { Finishes parsed self.entry result }
+    {
+        match parsed {
+            Ok(value) => {
+                self.finish()?;
+                Ok(value)
+            }
+            Err(fault) => {
+                self.discard();
+                Err(fault)
             }
         }
     }

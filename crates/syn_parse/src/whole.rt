@@ -7,7 +7,7 @@ ghost use Rattle.syn_parse.specs.Takings.{HasOneMessage, IsTold, KeepsBoth, Keep
 
 use crate::fault::Result;
 use crate::parse::Parse;
-use crate::parser::{explained, settle, source_stream, unread};
+use crate::parser::{explained, source_stream, unread};
 use crate::stream::tokens_to_parse_buffer;
 use std::alloc::Global;
 use tok_buffer::TokenBuffer;
@@ -30,7 +30,7 @@ pub fn parse2<T: Parse + Drop>(alloc: Global, tokens: TokenStream) -> Result<T>
     let buffer = TokenBuffer::new2(alloc, 0, tokens)?;
     let mut input = tokens_to_parse_buffer(alloc, &buffer, Span::call_site());
     let parsed = T::parse(&mut input);
-    settle(parsed, input)
+    input.finish_parsed(parsed)
 }
 
 /// Lexes `text`, and parses all of its tokens in the same way as `parse2`.
@@ -52,7 +52,7 @@ pub fn parse_str<T: Parse + Drop>(alloc: Global, text: &str) -> Result<T>
         Ok(buffer) => {
             let mut input = tokens_to_parse_buffer(alloc, &buffer, Span::call_site());
             let parsed = T::parse(&mut input);
-            settle(parsed, input)
+            input.finish_parsed(parsed)
         }
         Err(fault) => Err(unread(alloc, fault)),
     }
@@ -79,7 +79,7 @@ pub fn parse_text<T: Parse + Drop>(alloc: Global, number: u32, text: &str) -> Re
         Ok(buffer) => {
             let mut input = source_stream(alloc, &buffer, number);
             let parsed = T::parse(&mut input);
-            settle(parsed, input)
+            input.finish_parsed(parsed)
         }
         Err(fault) => Err(explained(alloc, text, fault)),
     }
@@ -99,7 +99,7 @@ pub fn parse_source<T: Parse + Drop>(alloc: Global, edition: Edition, text: &str
         Ok(buffer) => {
             let mut input = source_stream(alloc, &buffer, 0);
             let parsed = T::parse(&mut input);
-            settle(parsed, input)
+            input.finish_parsed(parsed)
         }
         Err(fault) => Err(explained(alloc, text, fault)),
     }

@@ -41,11 +41,10 @@ fn laid(alloc: Global, text: &str) -> Result<TokenBuffer, Stop> {
     made(TokenBuffer::from_text(alloc, 0, 0, text))
 }
 
-fn parsed<T: Parse>(alloc: Global, buffer: &TokenBuffer) -> syn_parse::Result<T> {
+fn parsed<T: Parse + Drop>(alloc: Global, buffer: &TokenBuffer) -> syn_parse::Result<T> {
     let mut input = tokens_to_parse_buffer(alloc, buffer, Span::call_site());
     let parsed = input.parse::<T>();
-    input.discard();
-    parsed
+    input.finish_parsed(parsed)
 }
 
 // Parses a text that has one.

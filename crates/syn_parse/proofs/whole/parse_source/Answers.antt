@@ -10,5 +10,5 @@ returns-in-Ok-clause-takes g c = grind (arith, common_steps, whole_keeps)
 pub returns-in-Ok-clause-once : goal.returns-in-Ok-clause-once
 returns-in-Ok-clause-once g c =
     let kept = returns-in-Ok-clause-takes g c in
-    source_once c.args.edition (chars c.args.text.now) g.T.Parse.takes kept.0 c.settle.result kept.1
-    kept.2
+    source_once c.args.edition (chars c.args.text.now) g.T.Parse.takes kept.0
+    c.finish_parsed.result kept.1 kept.2

@@ -12,10 +12,10 @@ returns-in-Ok-clause-takes g c =
       f,
       reads,
       text_keeps g.T.Parse.takes 0 (chars c.args.text.now) f (λ f. call_site) _ _ _ _
-          reads (search rules) c.parse-parsed.ensures.takes c.settle.ensures,
+          reads (search rules) c.parse-parsed.ensures.takes c.finish_parsed.ensures,
     )
 
 pub returns-in-Ok-clause-once : goal.returns-in-Ok-clause-once
 returns-in-Ok-clause-once g c =
     text_once 0 (λ f. call_site) _ (lexer_once _) g.T.Parse.takes (chars c.args.text.now)
-    c.settle.result (returns-in-Ok-clause-takes g c)
+    c.finish_parsed.result (returns-in-Ok-clause-takes g c)

@@ -13,12 +13,12 @@ returns-in-Ok-clause-takes g c =
       f,
       reads,
       text_keeps g.T.Parse.takes c.args.number (chars c.args.text.now) f end _ _ _ _
-          reads (search rules) c.parse-parsed.ensures.takes c.settle.ensures,
+          reads (search rules) c.parse-parsed.ensures.takes c.finish_parsed.ensures,
     )
 
 pub returns-in-Ok-clause-once : goal.returns-in-Ok-clause-once
 returns-in-Ok-clause-once g c =
     let text = chars c.args.text.now in
     text_once c.args.number (end_of_tokens c.args.number) _ (explained_once _ text)
-    g.T.Parse.takes text c.settle.result
+    g.T.Parse.takes text c.finish_parsed.result
     (returns-in-Ok-clause-takes g c)
