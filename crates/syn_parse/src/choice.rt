@@ -23,7 +23,7 @@ impl<'a> ParseBuffer<'a> {
     /// ```rust
     /// let guard = input.parse_after::<token::Where, Ident>()?;
     /// ```
-    #[tactic(auto, using(crate::proofs::OptionTakes::value_fails, crate::proofs::Returned::error_keeps), unfolding(crate::specs::After::take_after, crate::specs::Reads::Does))]
+    #[tactic(auto, using(crate::proofs::AfterTakes::value_fails, crate::proofs::Returned::error_keeps), unfolding(crate::specs::After::take_after, crate::specs::Reads::Does))]
     pub fn parse_after<P: Token + Parse + Drop, T: Parse>(&mut self) -> Result<Option<(P, T)>>
         ensures reads { Does (OptionParses P.peeks (BothParse P.parses T.parses)) self.old result
             self.new }
