@@ -13,13 +13,10 @@ use Rattle.syn_parse.specs.State.{State, advanced, forked}
 use Rattle.syn_parse.specs.Takes.{IsMissing, Outcome, TakesAs, Taking, found}
 use Rattle.syn_parse.specs.Takes.{TakeEach, Takes}
 use Rattle.syn_parse.specs.Takings.{Keeps, Takings, stated, untold}
-use Rattle.syn_parse.specs.TreesAhead.{ahead, only_trees}
+use Rattle.syn_parse.specs.TreesAhead.{ahead}
 use Rattle.syn_parse.specs.declared.fault.Fault.{Fault}
 
 module _ {T A : Type 0} (form : T → A) (take : Taking A) where
-  abbrev on-fork : State → Outcome A
-  on-fork s = take (only_trees (ahead s).trees)
-
   some-found : (s fork : State) (v : T) → TakesAs form take (forked s) (Ok v) fork
       → TakesAs (option_map form) (take_attempt take) s (Ok (Some v)) (advanced fork s)
   unfolding take_attempt

@@ -307,9 +307,6 @@ run_tokens u = (
   λ b f are.
       let t = tokens_passed u Operator f b.trees are refl in grind arith,
 ) where
-  parts : (f g : Forest) (a b : Ahead) → found f a ≡ found g b → (f ≡ g) × (a ≡ b)
-  parts f g a b e = (cc, cc)
-
   is : (a b : Ahead) (f : Forest) (c : Bool) → ((gone (start u) a.trees).2.depth == 0) ≡ c
       → by_depth a (gone (start u) a.trees) c ≡ found f b
       → AreTokens 0 u Operator f b.trees × (a ≡ after_these f b)

@@ -1,6 +1,6 @@
 -- A truth value, where an identifier is read.
 use Rattle.std.proofs.Common.{◌≡◌, ◌∙◌, sym, ap, refl, arith, ℕ, Bool, true, false, cond}
-use Rattle.std.proofs.Common.{List, [], ◌∷◌, Option, Some, None, Err, is_some, ◌||◌}
+use Rattle.std.proofs.Common.{List, [], ◌∷◌, Some, None, Err, is_some, ◌||◌}
 use Rattle.std.proofs.Common.{zero, suc, ◌<◌}
 use Rattle.std.proofs.lemmas.Bool.{and_from, and_parts, false≢true, ltb-true}
 use Rattle.std.proofs.lemmas.Slice.Eq.{bytes_eq-Decides}
@@ -12,7 +12,7 @@ use Rattle.std.specs.Str.{chars}
 use Rattle.unicode_ident.specs.Ident.{is_xid_continue}
 use Rattle.unicode_ident.proofs.IdentLemmas.{is_xid_continue-ascii, is_xid_start-ascii}
 use Rattle.tok_lexical.specs.Words.{IsIdentifier}
-use Rattle.tok_core.specs.Forest.{Forest, Tree}
+use Rattle.tok_core.specs.Forest.{Forest}
 use Rattle.tok_buffer.specs.Descent.{descend}
 use Rattle.tok_buffer.specs.Place.{Place}
 use Rattle.tok_buffer.specs.Reads.{is_ident, is_ident_of, read_if, read_keyword, read_word}
@@ -40,9 +40,6 @@ keyword_of v p = grind arith
 
 same_text : (v : Bool) → bytes_eq (bool_text v) (bool_text v) ≡ true
 same_text v = grind arith
-
-abbrev Reading : Type 0
-Reading = Option (List Tree × Place)
 
 -- what is read where a value is
 word_read : (q : Place) (v : Bool) → value_in (read_if is_ident q) ≡ Some v

@@ -6,7 +6,7 @@ use Rattle.std.specs.Prelude.{Result}
 use Rattle.tok_leaves.specs.declared.literal.Literal.{Literal}
 use Rattle.tok_leaves.specs.declared.span.Span.{Span}
 use Rattle.tok_leaves.specs.Leaves.{literal}
-use Rattle.tok_core.specs.Forest.{Tree, leaf}
+use Rattle.tok_core.specs.Forest.{leaf}
 use Rattle.tok_buffer.specs.Place.{Place}
 use Rattle.tok_buffer.specs.Reads.{is_literal, read_if, read_literal}
 use Rattle.tok_buffer.specs.declared.error.Message.{Message}
@@ -15,10 +15,6 @@ use Rattle.syn_parse.specs.Reads.{TreesRead, Reads}
 use Rattle.syn_parse.specs.State.{State}
 use Rattle.syn_parse.specs.declared.fault.Fault.{Fault}
 use Rattle.syn_literals.specs.Kinds.{KindParses, is_literal_of, read_literal_of}
-
-abbrev head_text : Option (List Tree × Place) → List ℕ
-head_text (Some (leaf (literal text span) ∷ ts, r)) = text
-head_text x = []
 
 pub not_some : {A : Type 0} (x : Option A) → is_some x ≡ false → x ≡ None
 not_some x e = grind arith
