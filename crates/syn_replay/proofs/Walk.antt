@@ -17,6 +17,7 @@ pub mod OnForks
 pub mod Parsed
 pub mod Pieces
 pub mod Positions
+pub mod Reads
 pub mod Received
 pub mod Steps
 pub mod Streams

@@ -63,9 +63,6 @@ progress_is : (p q : Place) → progresses p q ≡ is_later p q
 progress_is a0 a1 = grind (arith, or-false, in_one, less_is)
 
 -- the same stream at another place
-here : (s t : State) → t ≡ s → t ≡ moved t.place s
-here s t e = rw e refl
-
 there : (s t : State) (p : Place) → t ≡ moved p s → t ≡ moved t.place s
 there s t p e = rw e refl
 

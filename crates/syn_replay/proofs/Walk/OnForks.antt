@@ -283,13 +283,6 @@ module _ (front : AllStreams) (k : ℕ) (is_open : is_open_at front k ≡ true) 
   parents x y a_fork n h b = b
 
   -- the numbers of different streams stay different
-  on_again : (q j : ℕ) → Own q → Own j → on q ≡ on j → q ≡ j
-  on_again q j (stream e) (stream f) same = e ∙ sym f
-  on_again q j (stream e) (later h) same = search rules
-  on_again q j (later h) (stream f) same = search rules
-  on_again q j (later h) (later i) same =
-      let at : q + 1 ≡ j + 1 = sym (on_later q h) ∙ same ∙ on_later j i in omega (arith, at)
-
   same_parent : (q j : ℕ) → Own q → Own j → (on q == on j) ≡ (q == j)
   same_parent q j a b = search rules
 

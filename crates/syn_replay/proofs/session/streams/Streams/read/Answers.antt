@@ -1,10 +1,6 @@
-use Rattle.std.proofs.Common.{◌∙◌, ap, refl, sym, length-set, arith}
-use Rattle.std.proofs.lemmas.Result.{IfOk-weaker}
-use Rattle.syn_replay.specs.Session.Stream.{stream_kind, stream_of}
-use Rattle.syn_replay.specs.Session.Streams.{state_of}
-use Rattle.syn_replay.proofs.Walk.Lines.{line_there}
-use Rattle.syn_replay.proofs.Walk.Links.{listed_set}
-use Rattle.syn_replay.proofs.Walk.Streams.{changed_there, open_listed, stream_there}
+use Rattle.std.proofs.Common.{length-set, arith}
+use Rattle.syn_replay.proofs.Walk.Reads.{line_after, listed_after}
+use Rattle.syn_replay.proofs.Walk.Streams.{open_listed}
 use Rattle.syn_replay.proofs.session.streams.Streams.read.Goals as goal
 use Rattle.std.proofs.lemmas.Grind.{common_steps}
 
@@ -15,31 +11,16 @@ pub invariant_of-self : goal.invariant_of-self
 invariant_of-self g c =
     let s = c.args.self.now in
     let xs = s.list.items in
-    let x = c.index_mut.result.now in
     let z = c.read.new.self in
-    let same = c.read.ensures.contents in
     record {
       rooted = omega (arith, length-set xs c.args.n z, s.rooted);
       listed =
-          listed_set xs c.args.n x z s.listed c.index_mut.ensures.value
-          (open_listed xs c.args.n _ (c.in-Ok.ensures {u = tt}))
-          (ap (λ f. stream_kind f z.parent) same.2 ∙ ap (stream_kind x.is_fork) same.0) same.0
-          (ap (λ v. v.items) same.1);
+          listed_after xs c.args.n c.index_mut.result.now z _ c.index_mut.ensures.value
+          (c.in-Ok.ensures {u = tt}) s.listed c.read.ensures.contents;
     }
 
 pub returns-in-Ok : goal.returns-in-Ok
 returns-in-Ok g c r reads =
-    let s = c.args.self.now in
-    let xs = s.list.items in
-    let n = c.args.n in
-    let x = c.index_mut.result.now in
-    let z = c.read.new.self in
-    let here = c.in-Ok.ensures {u = tt} in
-    let within = open_listed xs n _ here in
-    let at = stream_there xs n x c.index_mut.ensures.value within in
-    IfOk-weaker c.read.result _ _
-    (λ l h.
-    line_there n (state_of s) r (stream_of x) (stream_of z) l _
-    (at, ap (λ z. z.is_open) (sym at ∙ here.0) ∙ here.1) h
-    (changed_there xs n x z (λ _. stream_of z) c.index_mut.ensures.value within refl))
+    line_after c.args.self.now.list.items c.args.n c.index_mut.result.now c.read.new.self _
+    c.index_mut.ensures.value (c.in-Ok.ensures {u = tt}) r c.read.result
     (c.read.ensures.line r reads)
