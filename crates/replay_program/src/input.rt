@@ -1,6 +1,6 @@
 //! Functions that read the program's input and split it into parts.
-ghost use Rattle.std.specs.Prelude.{◌≡◌, ◌∷◌, [], ◌++◌, List, ℕ, true, false, IfErr, IfOk, IfSome, Some, None, MatchOption};
-ghost use Rattle.std.specs.List.{All, slice_split};
+ghost use Rattle.std.specs.Prelude.{◌≡◌, ◌∷◌, ◌++◌, true, false, IfErr, IfOk, IfSome, Some, None, MatchOption};
+ghost use Rattle.std.specs.List.{All};
 ghost use Rattle.std.specs.Str.{IsUtf8};
 ghost use Rattle.replay_program.specs.Failures.{reading};
 ghost use Rattle.replay_program.specs.Input as spec;
@@ -10,6 +10,9 @@ use crate::channel::Source;
 use memchr::{memchr, memmem};
 use std::alloc::Global;
 use std::io::ErrorKind;
+
+// The most bytes that one read returns.
+const CHUNK: usize = 4096;
 
 /// The reason why an input could not be read.
 #[derive(Drop)]
@@ -33,7 +36,7 @@ pub fn read_input<S: Source>(alloc: Global, input: &mut S) -> Result<Vec<u8>, Re
         (λ fault. fault ≡ ReadFault.Failed → (reading S.reads input.old input.new).failed) }
 {
     let mut bytes = Vec::new(alloc);
-    let mut chunk = [0u8; 4096];
+    let mut chunk = [0u8; CHUNK];
     for _i in 0..u32::MAX {
         match input.read_some(&mut chunk) {
             Ok(0) => return Ok(bytes),
@@ -73,12 +76,8 @@ pub fn parts(input: &str) -> Option<(&str, Option<&str>, Option<&str>)>
 // Splits an input at the first line `---`.
 fn cut(input: Option<&str>) -> Option<(&str, Option<&str>)>
     requires { IfSome input (λ input. IsUtf8 input.now) }
-    ensures parts { MatchOption result
-        (slice_split spec.is_cut (spec.lines_left input.entry) ≡ spec.lines_left input.entry ∷ [])
-        (λ p. (before : List (List ℕ)) × (p.0.now ≡ spec.text_of before)
-        × (slice_split spec.is_cut (spec.lines_left input.entry)
-        ≡ before ∷ slice_split spec.is_cut (spec.lines_left p.1))) }
-    ensures utf8 { IfSome result (λ p. IsUtf8 p.0.now × IfSome p.1 (λ rest. IsUtf8 rest.now)) }
+    ensures parts { spec.IsCutOff input.entry result }
+    ensures utf8 { spec.AreUtf8 result }
 {
     let text = input?;
     let mut left = input;
@@ -95,12 +94,8 @@ fn cut(input: Option<&str>) -> Option<(&str, Option<&str>)>
 // Splits what is left of an input, as `cut` does. Mostly it is a list of commands, and has no `---`.
 fn cut_again(input: Option<&str>) -> Option<(&str, Option<&str>)>
     requires { IfSome input (λ input. IsUtf8 input.now) }
-    ensures parts { MatchOption result
-        (slice_split spec.is_cut (spec.lines_left input.entry) ≡ spec.lines_left input.entry ∷ [])
-        (λ p. (before : List (List ℕ)) × (p.0.now ≡ spec.text_of before)
-        × (slice_split spec.is_cut (spec.lines_left input.entry)
-        ≡ before ∷ slice_split spec.is_cut (spec.lines_left p.1))) }
-    ensures utf8 { IfSome result (λ p. IsUtf8 p.0.now × IfSome p.1 (λ rest. IsUtf8 rest.now)) }
+    ensures parts { spec.IsCutOff input.entry result }
+    ensures utf8 { spec.AreUtf8 result }
 {
     let text = input?;
     if lacks_cuts(text) {
