@@ -1,8 +1,10 @@
 //! Compares what parsers return with a test's rows: a value's text, or an error's range and words.
-//! `memory` says how calls that allocate end, and `escapes` how texts stand in lines.
+//! `memory` says how calls that allocate end, `escapes` how texts stand in lines, and `lines` how
+//! programs answer them.
 #![tactic(auto)]
 
 pub mod escapes;
+pub mod lines;
 pub mod memory;
 
 use std::alloc::Global;

@@ -5,31 +5,21 @@
 //! that begins with `#` is printed as it stands.
 #![tactic(auto)]
 
-use anyhow::{Context, Result};
+use anyhow::Result;
 use std::alloc::Global;
-use std::io;
 use syn_derive::{
     Attribute, Data, DeriveInput, Expr, Fields, Generics, Meta, MetaList, MetaNameValue,
     NestedMeta, Path, Type, Visibility, WhereClause,
 };
 use syn_parse::{ParseStream, Parser, parse2};
 use syn_punctuated::Punctuated;
+use test_outcomes::lines::print_answers;
 use test_outcomes::said;
 use tok_core::{Ident, Literal, ToTokens, TokenStream, lex_marked};
 use tok_types::token;
 
 fn main(rt: HostRuntime) -> Result<()> {
-    let alloc = rt.alloc();
-    let input = io::read_to_string(alloc, rt.stdin())?;
-    for line in input.lines() {
-        if line.starts_with('#') {
-            println!(rt; "{line}")?;
-        } else {
-            let answer = answer_to(alloc, line).context("a line is no case")?;
-            println!(rt; "{answer}")?;
-        }
-    }
-    Ok(())
+    print_answers(&rt, answer_to)
 }
 
 // Returns what is printed for a line, or `None` if it is no case or an allocation fails.
