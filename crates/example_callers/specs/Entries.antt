@@ -1,7 +1,5 @@
 -- Pairs `name , value`, and entries `name , value , (tail)`.
 use Rattle.tok_lexical.specs.declared.delimiter.Delimiter.TheVariants.{Bracket, Parenthesis}
-use Rattle.syn_parse.specs.Lighter.{lowering}
-use Rattle.syn_parse.specs.Takings.{Lowers}
 use Rattle.syn_parse.specs.Takes.{Taking, ◌>>=◌, gives, take_group}
 use Rattle.syn_parse.specs.TokenNames.{Comma, take}
 use Rattle.syn_parse.specs.Tokens.{take_ident, take_literal}
@@ -17,10 +15,6 @@ take_pair = do
   _ ← take Comma
   value ← take_literal
   gives (record { name = name; value = value })
-
--- less is ahead after a pair, as loops and lists need
-pub lowers_pair : Lowers take_pair
-lowers_pair = search lowering depth 20
 
 -- `name , value , (tail)`
 abbrev pub take_entry : Taking Entry
