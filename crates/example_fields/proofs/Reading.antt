@@ -1,5 +1,5 @@
 -- What the parser of a derive's input returns for entries.
-use Rattle.std.proofs.Common.{◌≡◌, ◌∙◌, ℕ, List, Ok, Err, ap, inl, inr, subst, sym, true}
+use Rattle.std.proofs.Common.{arith, ◌≡◌, ◌∙◌, ℕ, List, Err, ap, inl, inr, sym, true}
 use Rattle.std.specs.Prelude.{Result}
 use Rattle.std.specs.declared.alloc.AllocError.{AllocError}
 use Rattle.tok_leaves.specs.Spans.{call_site}
@@ -12,18 +12,16 @@ use Rattle.tok_entries.specs.declared.entry.Entry.{Entry}
 use Rattle.syn_parse.proofs.WholeTakes.{parser_keeps}
 use Rattle.syn_parse.specs.Reads.{Call}
 use Rattle.syn_parse.specs.State.{State}
-use Rattle.syn_parse.specs.Takes.{Outcome as Found, SaysAll, TakesAll, found, missing}
+use Rattle.syn_parse.specs.Takes.{Outcome as Found, TakesAll, found, missing}
 use Rattle.syn_parse.specs.Takings.{Keeps}
-use Rattle.syn_parse.specs.TreesAhead.{all_taken, only_trees}
+use Rattle.syn_parse.specs.TreesAhead.{only_trees}
 use Rattle.syn_parse.specs.declared.fault.Fault.{Fault}
-use Rattle.syn_parse.specs.declared.fault.Fault.TheVariants as fault
-use Rattle.entry_outcomes.specs.Answers.{Returns, Writes}
+use Rattle.entry_outcomes.specs.Answers.{Writes}
 use Rattle.entry_outcomes.specs.Parsed.{IsStopped, ParsesEntries, result_of}
 use Rattle.entry_outcomes.specs.declared.answer.Answer.{Answer}
 use Rattle.entry_outcomes.specs.declared.outcome.Message.{Message}
 use Rattle.entry_outcomes.specs.declared.outcome.Outcome.{Outcome}
 use Rattle.entry_outcomes.specs.declared.parse.EntriesFault.{EntriesFault}
-use Rattle.entry_outcomes.specs.declared.parse.EntriesFault.TheVariants.{Malformed, Rejected, Memory}
 use Rattle.syn_derive.specs.Inputs.{InputForm, input_form, take_input}
 use Rattle.syn_derive.specs.declared.derive.DeriveInput.{DeriveInput}
 use Rattle.example_fields.specs.Inputs.{AnswersInput, IsTabulated, ParsesInput, TablesAgree, input}
@@ -35,24 +33,10 @@ module _ (es : List Entry) (bs : List ℕ) where
       → erase (pruned f) ≡ erase f → filled (pruned f) ≡ true
       → TakesAll input_form take_input (pruned f) call_site parsed
       → ParsesInput es bs (result_of parsed)
-  of_parsed f (Ok it) d same fills h =
-      (f, d, subst (λ t. take_input (only_trees t) ≡ found (input_form it) all_taken) same h)
-  of_parsed f (Err (fault.Refused e)) d same fills ((none, one), says) = (
-    f,
-    d,
-    subst
-        (λ t. (form : InputForm) → take_input (only_trees t) ≡ found form all_taken → ⊥)
-        same none,
-    subst
-        (λ t. SaysAll (pruned f) call_site (take_input (only_trees t)) (fault.Refused e))
-        same (says fills),
-  )
-  of_parsed f (Err (fault.Memory e)) d same fills h = tt
+  of_parsed f parsed d same fills h = grind arith
 
   of_stopped : (stop : EntriesFault) → IsStopped es bs stop → ParsesInput es bs (Err stop)
-  of_stopped (Malformed refusal entry) h = h
-  of_stopped (Rejected e) h = absurd h
-  of_stopped Memory h = h
+  of_stopped stop h = grind arith
 
   -- a parser that takes the input of each stream, over entries
   pub input_of_entries : (calls : Call DeriveInput)
@@ -63,19 +47,15 @@ module _ (es : List Entry) (bs : List ℕ) where
   input_of_entries calls each fills result (inl (f, parsed, d, whole, same)) =
       let taken =
       parser_keeps input (pruned f) call_site calls each parsed whole (fills f).1 in
-      subst (ParsesInput es bs) (sym same)
-      (of_parsed f parsed d (fills f).0 (fills f).1 taken)
-  input_of_entries calls each fills result (inr (stop, h, same)) =
-      subst (ParsesInput es bs) (sym same) (of_stopped stop h)
+      rw same (of_parsed f parsed d (fills f).0 (fills f).1 taken)
+  input_of_entries calls each fills result (inr (stop, h, same)) = rw same (of_stopped stop h)
 
   -- an answer is written
   pub tabulated : (answer : Result (Answer Row) AllocError) (o : Outcome) (old new : List Row)
       (before after : List Message) (from to : List ℕ) → AnswersInput es bs answer
       → Writes answer o old new before after from to
       → IsTabulated es bs o old new before after from to
-  tabulated (Ok a) o old new before after from to (result, p, same) w =
-      inl (result, p, subst (λ g. Returns g o old new before after from to) same w)
-  tabulated (Err e) o old new before after from to h w = inr w
+  tabulated answer o old new before after from to h w = grind arith
 
 -- what is found, and what is not, of one outcome
 abbrev found_form : InputForm → Found InputForm → InputForm
