@@ -10,31 +10,28 @@ use Rattle.tok_lexical.specs.Pieces.{HasPrefix, IsLongestPrefix, ReadsLongest, S
 use Rattle.tok_lexical.specs.Rules.{decimal_rules, Spells}
 use Rattle.tok_lexical.specs.declared.rule.Rule.TheVariants.{Decimal, Float, PointedDecimal}
 use Rattle.tok_lexical.proofs.FloatTails.{tail_begins, point_begins, tries_point}
-use Rattle.tok_lexical.proofs.Digits.{tries_run, takes_run, digits_start, suffix_stops}
+use Rattle.tok_lexical.proofs.Digits.{tries_digits, takes_run, digits_start, suffix_stops}
 
 module _ (text rest digits : List ℕ) (s : Skips (is_digit_or_underscore 10) text digits rest)
     (g : starts_digit text ≡ true) where
   pub decimal_float : (end : Bor (List ℕ)) → ReadsLongest IsFloatTail rest (Some end) →
       (piece : List ℕ) × IsFirstFit text decimal_rules Float piece (chars end.now)
   decimal_float end t =
-      let w = tries_run 10 starts_digit IsFloatTail tail_begins text rest digits (Some end) s
-      (digits_start text rest digits s g) t in
+      let w = tries_digits IsFloatTail tail_begins text rest digits (Some end) s g t in
       (w.0, here w.1)
 
   no_float : ReadsLongest IsFloatTail rest None → HasPrefix (Spells Float) text → ⊥
-  no_float misses = tries_run 10 starts_digit IsFloatTail tail_begins text rest digits None s
-      (digits_start text rest digits s g) misses
+  no_float misses = tries_digits IsFloatTail tail_begins text rest digits None s g misses
 
   pub decimal_point : (after : Bor (List ℕ)) → ReadsLongest IsFloatTail rest None →
       rest ≡ 46 ∷ chars after.now → (piece : List ℕ) × IsFirstFit text decimal_rules
       PointedDecimal piece (chars after.now)
   decimal_point after misses e =
-      let w = tries_run 10 starts_digit (λ tail. tail ≡ 46 ∷ []) point_begins text rest digits
-      (Some after) s (digits_start text rest digits s g)
+      let w = tries_digits (λ tail. tail ≡ 46 ∷ []) point_begins text rest digits (Some after) s g
       (tries_point rest (Some after) e) in
       (w.0, later (no_float misses) (here w.1))
 
-  takes_plain : (suffix last : List ℕ) → IsLongestPrefix (IsNumberSuffix 10) rest suffix last →
+  pub takes_plain : (suffix last : List ℕ) → IsLongestPrefix (IsNumberSuffix 10) rest suffix last →
       (piece : List ℕ) × IsLongestPrefix (Spells Decimal) text piece last
   takes_plain suffix last t = takes_run 10 starts_digit (IsNumberSuffix 10) (suffix_stops 10)
       text rest last digits suffix s (digits_start text rest digits s g) t
@@ -44,8 +41,8 @@ module _ (text rest digits : List ℕ) (s : Skips (is_digit_or_underscore 10) te
       last → (piece : List ℕ) × IsFirstFit text decimal_rules Decimal piece last
   decimal_integer suffix last misses n t =
       let w = takes_plain suffix last t in
-      let no_point = tries_run 10 starts_digit (λ tail. tail ≡ 46 ∷ []) point_begins text rest
-      digits None s (digits_start text rest digits s g) (tries_point rest None n) in
+      let no_point = tries_digits (λ tail. tail ≡ 46 ∷ []) point_begins text rest digits None s g
+      (tries_point rest None n) in
       (w.0, later (no_float misses) (later no_point (here w.1)))
 
   pub decimal_only : (suffix last : List ℕ) → IsLongestPrefix (IsNumberSuffix 10) rest suffix

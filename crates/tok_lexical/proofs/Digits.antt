@@ -1,6 +1,6 @@
 -- Digits and suffixes.
 use Rattle.std.proofs.Common.{◌≡◌, ◌∙◌, ℕ, inl, inr, List, [], ◌∷◌, ◌++◌, refl, sym, ap}
-use Rattle.std.proofs.Common.{append_assoc, true, false, Bool, arith, ◌<◌, ◌≤◌, rules, tests}
+use Rattle.std.proofs.Common.{append_assoc, true, false, Bool, arith, ◌<◌, ◌≤◌}
 use Rattle.tok_lexical.specs.Scans.{IsAsciiTest}
 use Rattle.tok_lexical.proofs.Runs.{ascii_test}
 use Rattle.std.specs.Prelude.{◌==◌, ◌||◌, Option, Some, None, unwrap_or}
@@ -12,6 +12,7 @@ use Rattle.std.proofs.Math.Bool.{or-false}
 use Rattle.std.proofs.lemmas.List.Folds.{list_any-append}
 use Rattle.std.proofs.lemmas.List.{append-nil}
 use Rattle.std.proofs.lemmas.Bool.{false≢true, and_parts, or_left}
+use Rattle.std.proofs.lemmas.Bool.Decides.{nat_tests}
 use Rattle.tok_lexical.specs.Pieces.{IsLongestPrefix, HasPrefix, ReadsLongest, Skips, Stops, After}
 use Rattle.tok_lexical.specs.Words.{IsIdentifier}
 use Rattle.tok_lexical.specs.declared.numbers.Base.{Base}
@@ -128,11 +129,25 @@ digits_start text (c ∷ rest) [] s g =
     absurd (false≢true (sym s.stops ∙ or_left (is_digit c 10) (c == 95) (rw s.cut at g)))
 digits_start text rest (d ∷ digits) s g = rw s.cut at g
 
-decimal_low : (c : ℕ) → is_digit_or_underscore 10 c ≡ true → c < 128
-decimal_low c h = let l : c ≤ 95 = search (rules, tests) in omega arith
+-- a text that begins with a digit: its digits, and what is tried after them
+pub tries_digits : (Tail : List ℕ → Type 0) →
+    ((tail : List ℕ) → Tail tail → (c : ℕ) × (more : List ℕ) × (tail ≡ c ∷ more)
+    × (is_digit_or_underscore 10 c ≡ false)) →
+    (text rest digits : List ℕ) (answer : Option (Bor (List ℕ))) →
+    Skips (is_digit_or_underscore 10) text digits rest → starts_digit text ≡ true →
+    ReadsLongest Tail rest answer → ReadsLongest (IsRun 10 starts_digit Tail) text answer
+tries_digits Tail apart text rest digits answer s g = tries_run 10 starts_digit Tail apart text rest
+    digits answer s (digits_start text rest digits s g)
 
-pub decimals_ascii_test : IsAsciiTest (is_digit_or_underscore 10)
-decimals_ascii_test = ascii_test (is_digit_or_underscore 10) decimal_low
+-- digits are ASCII
+pub digit_low : (radix c : ℕ) → radix ≤ 16 → is_digit c radix ≡ true → c < 128
+digit_low radix c h p = grind (arith, nat_tests)
+
+pub digits_ascii_test : (radix : ℕ) → radix ≤ 16 → IsAsciiTest (is_digit_or_underscore radix)
+digits_ascii_test radix h = ascii_test (is_digit_or_underscore radix) low
+  where
+    low : (c : ℕ) → is_digit_or_underscore radix c ≡ true → c < 128
+    low c p = grind (arith, nat_tests)
 
 -- a text that begins with a digit
 pub digit_first : (text rest : List ℕ) (c : ℕ) → text ≡ c ∷ rest → starts_digit text ≡ true →

@@ -51,7 +51,7 @@ none_more rules text i d l before misses = record {
       ];
 }
 
-pub none_at_all : (rules : List Rule) (text : List ℕ) (i : ℕ) → length rules ≤ i →
+none_at_all : (rules : List Rule) (text : List ℕ) (i : ℕ) → length rules ≤ i →
     NoneBefore rules text i → NoneBefore rules text (length rules)
 none_at_all rules text i l before =
     record { none = λ j q k m fits. before.none j q (omega arith) m fits }
@@ -74,7 +74,7 @@ fits_front (r ∷ those) others text piece rest rule (here t) = here t
 fits_front (r ∷ those) others text piece rest rule (later misses d) =
     later misses (fits_front those others text piece rest rule d)
 
-pub fits_behind : (those others : List Rule) (text piece rest : List ℕ) (rule : Rule) →
+fits_behind : (those others : List Rule) (text piece rest : List ℕ) (rule : Rule) →
     NoneBefore those text (length those) → IsFirstFit text others rule piece rest →
     IsFirstFit text (those ++ others) rule piece rest
 fits_behind [] others text piece rest rule none d = d
@@ -159,6 +159,18 @@ module _ (mode : Mode) {text piece rest : List ℕ} {rule : Rule} where
       IsFirstFit text (rules_of mode) rule piece rest
   decides_listed c more k those e is listed d =
       decides_begun c more k e is (rw listed at d)
+
+-- one of the last three rules, where none of the others fits
+pub decides_last : (mode : Mode) (c : ℕ) (text more rest : List ℕ) (rule : Rule) (k : Start)
+    (those : List Rule) (i : ℕ) → text ≡ c ∷ more → start_of c ≡ k →
+    those ++ last_rules ≡ among mode (beginning k) → length those ≤ i → NoneBefore those text i →
+    (piece : List ℕ) × IsFirstFit text last_rules rule piece rest → (piece : List ℕ)
+    × IsFirstFit text (rules_of mode) rule piece rest
+decides_last mode c text more rest rule k those i e is listed l before (piece, d) = (
+  piece,
+  decides_listed mode c more k (those ++ last_rules) e is listed
+      (fits_behind those last_rules text piece rest rule (none_at_all those text i l before) d),
+)
 
 -- a text that none of the others takes, by the last three rules
 module _ (c : ℕ) (text more : List ℕ) (e : text ≡ c ∷ more) where

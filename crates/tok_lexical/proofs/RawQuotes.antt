@@ -1,17 +1,17 @@
 -- What is between the quotes of a raw string, by the search for the quote that ends it.
-use Rattle.std.proofs.Common.{◌≡◌, ◌∙◌, ◌+◌, ◌-◌, ◌≤◌, ◌∷◌, ◌++◌, [], ap, arith, eqb-true, false}
+use Rattle.std.proofs.Common.{◌≡◌, ◌∙◌, ◌+◌, ◌-◌, ◌≤◌, ◌∷◌, ◌++◌, [], arith}
 use Rattle.std.proofs.Common.{inl, length, List, refl, suc, sym, take, true, zero, ℕ}
-use Rattle.std.specs.Prelude.{◌==◌, encode_utf8_all}
+use Rattle.std.specs.Prelude.{◌==◌}
 use Rattle.std.specs.Str.{chars, IsAscii, IsCharBoundary, IsUtf8}
-use Rattle.std.proofs.lemmas.Bool.{false≢true}
-use Rattle.std.proofs.lemmas.List.{append-nil, nil_from_length}
-use Rattle.std.proofs.lemmas.Str.{chars-nil, encodes-chars, IsUtf8-append, IsUtf8-from_ascii}
+use Rattle.std.proofs.lemmas.List.{append-nil}
+use Rattle.std.proofs.lemmas.Str.{IsUtf8-append, IsUtf8-from_ascii}
 use Rattle.tok_lexical.specs.Pieces.{HasPrefix, Skips}
-use Rattle.tok_lexical.specs.Raw.{EndsAt, closed, further, IsRaw}
+use Rattle.tok_lexical.specs.Raw.{EndsAt, closed, further, IsRaw, most_signs}
 use Rattle.tok_lexical.specs.RawQuotes.{InRawQuotes}
 use Rattle.tok_lexical.proofs.Digits.{all_stops}
-use Rattle.tok_lexical.proofs.RawStrings.{free_ends, signs_length}
+use Rattle.tok_lexical.proofs.RawStrings.{free_ends, signs, signs_length}
 use Rattle.tok_lexical.proofs.Texts.{ascii_first, cut_boundary, cut_chars, cut_length, front_chars}
+use Rattle.tok_lexical.proofs.Texts.{nothing_left}
 
 -- a raw string without a suffix is a raw string
 pub quotes_raw : (text contents : List ℕ) → InRawQuotes text contents → HasPrefix IsRaw text
@@ -43,7 +43,7 @@ module _ (text mid hashes start body : List ℕ) (s : Skips (λ c. c == 35) text
       (sym cut ∙ same ∙ sym (append-nil (contents ++ 34 ∷ hs)))).1
 
   -- and what comes before the closing is between the quotes
-  pub quotes_read : length hashes ≤ 255 → start ≡ body → (contents : List ℕ)
+  pub quotes_read : length hashes ≤ most_signs → start ≡ body → (contents : List ℕ)
       × (start ≡ contents ++ 34 ∷ hashes) × InRawQuotes text contents
   quotes_read l cut =
       let (front, e) = ends_with m in
@@ -78,40 +78,45 @@ module _ (start hashes contents : List ℕ) (u : IsUtf8 start) (v : IsUtf8 hashe
   cut : chars start ≡ contents ++ chars (34 ∷ hashes)
   cut = rw (quote_chars hashes v) e
 
-  pub closing_length : length hashes + 1 ≤ length start
+  closing_length : length hashes + 1 ≤ length start
   closing_length =
       let l = cut_length start (34 ∷ hashes) contents u (quote_utf8 hashes v) cut in omega arith
 
-  pub closing_boundary : IsCharBoundary start (length start - length hashes - 1)
+  closing_boundary : IsCharBoundary start (length start - (length hashes + 1))
   closing_boundary =
-      let n : length start - length (34 ∷ hashes) ≡ length start - length hashes - 1 =
+      let n : length start - length (34 ∷ hashes) ≡ length start - (length hashes + 1) =
       omega arith in
       rw (← n) (cut_boundary start (34 ∷ hashes) contents u (quote_utf8 hashes v) cut)
 
-  pub contents_chars : (taken : List ℕ) → taken ≡ take (length start - length hashes - 1) start →
+  contents_chars : (taken : List ℕ) → taken ≡ take (length start - (length hashes + 1)) start →
       chars taken ≡ contents
   contents_chars taken is =
-      let n : length start - length hashes - 1 ≡ length start - length (34 ∷ hashes) =
+      let n : length start - (length hashes + 1) ≡ length start - length (34 ∷ hashes) =
       omega arith in
       front_chars start (34 ∷ hashes) contents taken cut
       (cut_chars start (34 ∷ hashes) contents taken u (quote_utf8 hashes v) cut (rw (← n) is))
 
--- some text is left, or none
-pub some_left : (rest : List ℕ) → IsUtf8 rest → (length rest == 0) ≡ false → chars rest ≡ [] → ⊥
-some_left [] u h e = false≢true (sym h)
-some_left (x ∷ rest) u h e =
-    let bytes : x ∷ rest ≡ [] = sym (encodes-chars (x ∷ rest) u) ∙ ap encode_utf8_all e in cc
+-- a closing that was found, with nothing after it: it fits into the text after the quote, and what
+-- is before it is between the quotes
+pub record IsWhole (text start hashes : List ℕ) : Type 0 where
+  pub fits : length hashes + 1 ≤ length start
+  pub boundary : IsCharBoundary start (length start - (length hashes + 1))
+  pub reads : (taken : List ℕ) → taken ≡ take (length start - (length hashes + 1)) start →
+      InRawQuotes text (chars taken)
 
-none_left : (rest : List ℕ) → (length rest == 0) ≡ true → chars rest ≡ []
-none_left rest h = rw (nil_from_length rest (eqb-true (length rest) 0 h)) chars-nil
-
--- a closing that was found, with nothing after it
 pub quotes_found : (text mid hashes start end : List ℕ) →
-    Skips (λ c. c == 35) text (chars hashes) mid → IsUtf8 hashes → length hashes ≤ 255 →
-    mid ≡ 34 ∷ chars start → (length end == 0) ≡ true
-    → (body : List ℕ) × (chars start ≡ body ++ chars end) × EndsAt (34 ∷ chars hashes) body →
-    (contents : List ℕ) × (chars start ≡ contents ++ 34 ∷ chars hashes) × InRawQuotes text contents
-quotes_found text mid hashes start end s u few q none (body, cut, m) =
+    (front : List ℕ) × Skips (λ c. c == 35) text front mid →
+    ((front : List ℕ) → text ≡ front ++ mid → chars hashes ≡ front) → IsUtf8 hashes →
+    IsUtf8 start → length hashes ≤ most_signs → mid ≡ 34 ∷ chars start → (length end == 0) ≡ true →
+    (body : List ℕ) × (chars start ≡ body ++ chars end) × EndsAt (34 ∷ chars hashes) body →
+    IsWhole text start hashes
+quotes_found text mid hashes start end passed is u v few q none (body, cut, m) =
+    let s = signs text mid hashes passed is in
     let l = signs_length hashes u s.pass in
-    quotes_read text mid (chars hashes) (chars start) body s q m (omega arith)
-    (cc (none_left end none, append-nil body))
+    let (contents, e, read) = quotes_read text mid (chars hashes) (chars start) body s q m
+    (omega arith) (cc (nothing_left end none, append-nil body)) in
+    record {
+      fits = closing_length start hashes contents v u e;
+      boundary = closing_boundary start hashes contents v u e;
+      reads = λ taken t. rw (contents_chars start hashes contents v u e taken t) read;
+    }

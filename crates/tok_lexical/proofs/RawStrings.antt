@@ -9,7 +9,7 @@ use Rattle.std.proofs.lemmas.Str.{encodes-chars, encodes-IsAscii}
 use Rattle.std.proofs.lemmas.Str.Ascii.{IsAscii-nil}
 use Rattle.std.specs.List.{list_all}
 use Rattle.tok_lexical.specs.Pieces.{HasPrefix, IsLongestPrefix, Skips, Stops, is_neither}
-use Rattle.tok_lexical.specs.Raw.{EndsAt, closed, further, IsRaw}
+use Rattle.tok_lexical.specs.Raw.{EndsAt, closed, further, IsRaw, most_signs}
 use Rattle.tok_lexical.specs.Words.{IsSuffix}
 use Rattle.tok_lexical.proofs.Leads.{Leads, leads_run, leads_then}
 use Rattle.tok_lexical.proofs.NestedComments.{neither_of}
@@ -121,7 +121,7 @@ stands_none hashes start rest front s stop none (piece, after, cut, m) =
 -- the parts of a raw string whose number signs are known
 raw_parts : (text mid hashes piece after : List ℕ) → Skips (λ c. c == 35) text hashes mid →
     text ≡ piece ++ after → IsRaw piece → (body : List ℕ) × (suffix : List ℕ)
-    × (mid ≡ 34 ∷ (body ++ (suffix ++ after))) × (length hashes ≤ 255)
+    × (mid ≡ 34 ∷ (body ++ (suffix ++ after))) × (length hashes ≤ most_signs)
     × EndsAt (34 ∷ hashes) body × IsSuffix suffix × (piece ≡ hashes ++ 34 ∷ (body ++ suffix))
 raw_parts text mid hashes piece after s cut (hs, body, suffix, e, a, l, m, k) =
     let w = all_stops (λ c. c == 35) hashes hs mid (34 ∷ ((body ++ suffix) ++ after)) s.pass a
@@ -136,7 +136,7 @@ raw_parts text mid hashes piece after s cut (hs, body, suffix, e, a, l, m, k) =
     )
 
 module _ (text mid hashes : List ℕ) (s : Skips (λ c. c == 35) text hashes mid) where
-  pub raw_long : 255 < length hashes → HasPrefix IsRaw text → ⊥
+  pub raw_long : most_signs < length hashes → HasPrefix IsRaw text → ⊥
   raw_long l (piece, after, cut, r) = let p = raw_parts text mid hashes piece after s cut r in
       let few = p.3 in absurd (omega arith)
 
@@ -150,7 +150,7 @@ module _ (text mid hashes : List ℕ) (s : Skips (λ c. c == 35) text hashes mid
       let p = raw_parts text mid hashes piece after s cut r in
       misses (p.0, p.1 ++ after, cc (p.2), p.4)
 
-  pub takes_raw : (start end last body suffix : List ℕ) → length hashes ≤ 255 →
+  pub takes_raw : (start end last body suffix : List ℕ) → length hashes ≤ most_signs →
       mid ≡ 34 ∷ start → start ≡ body ++ end → EndsAt (34 ∷ hashes) body →
       IsLongestPrefix IsSuffix end suffix last → (piece : List ℕ)
       × IsLongestPrefix IsRaw text piece last

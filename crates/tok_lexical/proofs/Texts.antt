@@ -4,8 +4,8 @@ use Rattle.std.proofs.Common.{take, drop, get_or, sym, ap, length-append, arith,
 use Rattle.std.proofs.Common.{refl}
 use Rattle.std.specs.Str.{chars, IsUtf8, IsAscii, IsCharBoundary}
 use Rattle.std.specs.Char.{is_ascii_graphic}
-use Rattle.std.specs.Prelude.{Bool, encode_utf8_all, true, false, nat_le}
-use Rattle.std.proofs.lemmas.Bool.{le-leb, false_from_ne_true}
+use Rattle.std.specs.Prelude.{◌==◌, Bool, encode_utf8_all, true, false, nat_le}
+use Rattle.std.proofs.lemmas.Bool.{eqb-true, le-leb, false≢true, false_from_ne_true}
 use Rattle.tok_lexical.proofs.Runs.{ascii_test, begins_as}
 use Rattle.tok_lexical.specs.Private.Fronts.{begins_visibly, begins_beyond_ascii}
 use Rattle.tok_lexical.specs.Widths.{width, is_group_mark}
@@ -92,6 +92,15 @@ ascii_misses text c u l other more e =
 -- nothing is left
 pub nothing_begins : (text : List ℕ) → length text ≡ 0 → chars text ≡ []
 nothing_begins text z = rw (nil_from_length text z) chars-nil
+
+pub nothing_left : (text : List ℕ) → (length text == 0) ≡ true → chars text ≡ []
+nothing_left text h = nothing_begins text (eqb-true (length text) 0 h)
+
+-- some text is left
+pub some_left : (text : List ℕ) → IsUtf8 text → (length text == 0) ≡ false → chars text ≡ [] → ⊥
+some_left [] u h e = false≢true (sym h)
+some_left (x ∷ text) u h e =
+    let bytes : x ∷ text ≡ [] = sym (encodes-chars (x ∷ text) u) ∙ ap encode_utf8_all e in cc
 
 pub nothing_first : (text : List ℕ) (c : ℕ) → length text ≡ 0 → (more : List ℕ) →
     chars text ≡ c ∷ more → ⊥

@@ -5,7 +5,7 @@ use Rattle.std.specs.Prelude.{◌≤◌, ◌<◌, length, Option, Some, None}
 use Rattle.tok_lexical.specs.Ascii.{apostrophe, backslash, lower_b, lower_c, lower_r, lower_u}
 use Rattle.tok_lexical.specs.Ascii.{lower_x, number_sign, quote}
 use Rattle.tok_lexical.specs.Pieces.{HasPrefix, IsAll, begins_with}
-use Rattle.tok_lexical.specs.Raw.{EndsAt}
+use Rattle.tok_lexical.specs.Raw.{EndsAt, most_signs}
 use Rattle.tok_lexical.specs.Strings.{AreUnits, IsByte, IsChar, IsUnit}
 use Rattle.tok_lexical.specs.Widths.{bytes}
 use Rattle.tok_lexical.specs.declared.contents.Contents.{Contents}
@@ -117,10 +117,10 @@ pub record OpensRaw (contents : Contents) (text hashes rest : List ℕ) : Type 0
 -- # are too many, or no quote closes it. If the # are few enough, and a quote with as many closes
 -- it, nothing is wrong.
 pub data IsRawFault (hashes text : List ℕ) : Option (QuotedFault × ℕ) → Type 0 where
-  too_many : 255 < length hashes → IsRawFault hashes text (Some (TooManyHashes, 0))
-  unclosed : length hashes ≤ 255 → (HasPrefix (EndsAt (quote ∷ hashes)) text → ⊥) →
+  too_many : most_signs < length hashes → IsRawFault hashes text (Some (TooManyHashes, 0))
+  unclosed : length hashes ≤ most_signs → (HasPrefix (EndsAt (quote ∷ hashes)) text → ⊥) →
       IsRawFault hashes text (Some (UnclosedRaw, 0))
-  whole : length hashes ≤ 255 → HasPrefix (EndsAt (quote ∷ hashes)) text →
+  whole : length hashes ≤ most_signs → HasPrefix (EndsAt (quote ∷ hashes)) text →
       IsRawFault hashes text None
 
 -- What is wrong with the quoted literal that the text begins with, and at which byte. Nothing is

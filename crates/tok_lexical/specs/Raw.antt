@@ -13,13 +13,17 @@ pub data EndsAt (closing : List ℕ) : List ℕ → Type 0 where
   further : {c : ℕ} {text : List ℕ} → ((more : List ℕ) → c ∷ text ≡ closing ++ more → ⊥) →
       EndsAt closing text → EndsAt closing (c ∷ text)
 
+-- the most # that a raw string may have before its quote
+abbrev pub most_signs : ℕ
+most_signs = 255
+
 -- what follows the prefix of a raw string: at most 255 #, a quote, and up to the first quote that
 -- as many # follow; and a suffix
 abbrev pub IsRaw : List ℕ → Type 0
 IsRaw piece =
     (hashes : List ℕ) × (body : List ℕ) × (suffix : List ℕ)
     × (piece ≡ hashes ++ quote ∷ (body ++ suffix)) × IsAll (λ c. c == number_sign) hashes
-    × (length hashes ≤ 255) × EndsAt (quote ∷ hashes) body × IsSuffix suffix
+    × (length hashes ≤ most_signs) × EndsAt (quote ∷ hashes) body × IsSuffix suffix
 
 -- a raw string with its prefix, which tells the kind: `r`, `br` or `cr`
 abbrev pub IsRawString : Contents → List ℕ → Type 0

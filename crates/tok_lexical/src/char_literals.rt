@@ -1,6 +1,7 @@
 //! Functions that skip character literals and byte literals.
 ghost use Rattle.std.specs.Prelude.{◌≡◌, IfSome};
 ghost use Rattle.std.specs.Str.{chars, IsUtf8};
+ghost use Rattle.tok_lexical.specs.Ascii.{apostrophe, lower_b};
 ghost use Rattle.tok_lexical.specs.Pieces.{IsOne, After, ReadsLongest};
 ghost use Rattle.tok_lexical.specs.Private.Finds.{ReadsPrefix};
 ghost use Rattle.tok_lexical.specs.Words.{IsSuffix};
@@ -27,7 +28,7 @@ fn is_byte(c: char) -> bool
 // Inlined: it is the end of each of the three rules, and mostly two tests.
 #[inline(always)]
 fn past_end(text: &str) -> Option<&str>
-    ensures tries { ReadsLongest (After 39 IsSuffix) (chars text.now) result }
+    ensures tries { ReadsLongest (After apostrophe IsSuffix) (chars text.now) result }
     ensures utf8 { IfSome result (λ rest. IsUtf8 rest.now) }
 {
     let rest = past_char(text, '\'')?;
@@ -115,7 +116,7 @@ fn past_quoted_byte(text: &str) -> Option<&str>
 /// The literal includes its suffix. Returns `None` if `text` does not begin with such a literal.
 #[inline(always)]
 pub fn past_byte_char(text: &str) -> Option<&str>
-    ensures tries { ReadsLongest (After 98 (IsQuoted IsByte)) (chars text.now) result }
+    ensures tries { ReadsLongest (After lower_b (IsQuoted IsByte)) (chars text.now) result }
     ensures utf8 { IfSome result (λ rest. IsUtf8 rest.now) }
 {
     let start = past_char(text, 'b')?;

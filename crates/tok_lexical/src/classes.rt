@@ -108,7 +108,8 @@ fn may_begin_whitespace(text: &str) -> bool
     ensures { begins_passing is_whitespace (chars text.now) ≡ true → result ≡ true }
 {
     match text.as_bytes().first() {
-        Some(byte) => *byte <= 0xC2 || *byte == 0xE2,
+        Some(byte) if *byte > 0xC2 => *byte == 0xE2,
+        Some(_) => true,
         None => false,
     }
 }

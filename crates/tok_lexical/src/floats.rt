@@ -2,9 +2,9 @@
 ghost use Rattle.std.specs.Prelude.{IfSome};
 ghost use Rattle.std.specs.Str.{chars, IsUtf8};
 ghost use Rattle.tok_lexical.specs.Pieces.{ReadsLongest};
-ghost use Rattle.tok_lexical.specs.Floats.{IsExponentDigits, IsSigned, IsExponent, IsScaled, IsFraction, IsFloatTail, IsFloat, IsPointed};
+ghost use Rattle.tok_lexical.specs.Floats.{IsExponentDigits, IsSigned, IsExponent, IsFraction, IsFloatTail, IsFloat, IsPointed};
 
-use crate::numbers::{is_exponent, past_decimal, past_digits, starts_digit};
+use crate::numbers::{is_exponent, past_decimals, past_digits, past_number_suffix, starts_digit};
 use crate::text::{past_char, past_first};
 use crate::words::past_suffix;
 
@@ -45,18 +45,6 @@ pub fn past_exponent(text: &str) -> Option<&str>
     }
 }
 
-/// Returns the rest of `text` after leading decimal digits and an exponent.
-fn past_scaled(text: &str) -> Option<&str>
-    ensures tries { ReadsLongest IsScaled (chars text.now) result }
-    ensures utf8 { IfSome result (λ rest. IsUtf8 rest.now) }
-{
-    if !starts_digit(text) {
-        return None;
-    }
-    let (_, rest) = past_digits(text, 10);
-    past_exponent(rest)
-}
-
 /// Skips the part of a float after its dot, and returns the rest of `text`. `text` begins directly
 /// after the dot.
 ///
@@ -67,9 +55,13 @@ pub fn past_fraction(text: &str) -> Option<&str>
     ensures tries { ReadsLongest IsFraction (chars text.now) result }
     ensures utf8 { IfSome result (λ rest. IsUtf8 rest.now) }
 {
-    match past_scaled(text) {
-        Some(rest) => Some(rest),
-        None => past_decimal(text),
+    if !starts_digit(text) {
+        return None;
+    }
+    let rest = past_decimals(text);
+    match past_exponent(rest) {
+        Some(end) => Some(end),
+        None => Some(past_number_suffix(rest, 10)),
     }
 }
 
@@ -95,7 +87,7 @@ pub fn past_float(text: &str) -> Option<&str>
     if !starts_digit(text) {
         return None;
     }
-    let (_, rest) = past_digits(text, 10);
+    let rest = past_decimals(text);
     past_float_tail(rest)
 }
 
@@ -110,6 +102,6 @@ pub fn past_pointed(text: &str) -> Option<&str>
     if !starts_digit(text) {
         return None;
     }
-    let (_, rest) = past_digits(text, 10);
+    let rest = past_decimals(text);
     past_char(rest, '.')
 }

@@ -1,7 +1,7 @@
 //! Functions that skip the prefixes of raw strings, byte strings and C strings.
 ghost use Rattle.std.specs.Prelude.{◌==◌, ◌<◌, ℕ, List, IfSome};
 ghost use Rattle.std.specs.Str.{chars, IsUtf8};
-ghost use Rattle.tok_lexical.specs.Ascii.{number_sign};
+ghost use Rattle.tok_lexical.specs.Ascii.{lower_r, number_sign};
 ghost use Rattle.tok_lexical.specs.Pieces.{After, ReadsLongest, Skips};
 ghost use Rattle.tok_lexical.specs.Private.Finds.{ReadsPrefix};
 ghost use Rattle.tok_lexical.specs.Strings.{IsHashes, IsPrefixed, IsPrefixOf, IsStringPrefix};
@@ -31,7 +31,7 @@ fn past_hashes(text: &str) -> Option<&str>
 
 /// Returns the rest of `text` after a leading `r`, any number of `#` characters and a quote.
 fn past_raw(text: &str) -> Option<&str>
-    ensures finds { ReadsPrefix (After 114 IsHashes) (chars text.now) result }
+    ensures finds { ReadsPrefix (After lower_r IsHashes) (chars text.now) result }
     ensures utf8 { IfSome result (λ rest. IsUtf8 rest.now) }
 {
     let rest = past_char(text, 'r')?;

@@ -1,6 +1,7 @@
 //! Functions that skip raw strings.
 ghost use Rattle.std.specs.Prelude.{◌≡◌, ℕ, ◌∷◌, ◌++◌, List, MatchOption, IfSome};
 ghost use Rattle.std.specs.Str.{chars, IsUtf8};
+ghost use Rattle.tok_lexical.specs.Ascii.{lower_b, lower_c, lower_r, quote};
 ghost use Rattle.tok_lexical.specs.Pieces.{After, ReadsLongest};
 ghost use Rattle.tok_lexical.specs.Private.Finds.{ReadsPrefix};
 ghost use Rattle.tok_lexical.specs.Raw.{EndsAt, IsRaw, IsRawString};
@@ -42,7 +43,7 @@ fn past_same<'a>(text: &'a str, front: &str) -> Option<&'a str>
 /// `text` begins after the opening quote. The closing quote is the first quote directly before
 /// `hashes`. Returns `None` if there is no such quote.
 pub(crate) fn past_raw_body<'a>(text: &'a str, hashes: &str) -> Option<&'a str>
-    ensures finds { ReadsPrefix (EndsAt (34 ∷ chars hashes.now)) (chars text.now) result }
+    ensures finds { ReadsPrefix (EndsAt (quote ∷ chars hashes.now)) (chars text.now) result }
     ensures utf8 { IfSome result (λ rest. IsUtf8 rest.now) }
 {
     let mut rest = text;
@@ -73,7 +74,7 @@ fn past_raw_rest(text: &str) -> Option<&str>
 
 /// Returns the rest of `text` after a leading `r`, the rest of a raw string and its suffix.
 fn past_raw_text(text: &str) -> Option<&str>
-    ensures tries { ReadsLongest (After 114 IsRaw) (chars text.now) result }
+    ensures tries { ReadsLongest (After lower_r IsRaw) (chars text.now) result }
     ensures utf8 { IfSome result (λ rest. IsUtf8 rest.now) }
 {
     let rest = past_char(text, 'r')?;
@@ -82,7 +83,7 @@ fn past_raw_text(text: &str) -> Option<&str>
 
 /// Returns the rest of `text` after a leading `br`, the rest of a raw string and its suffix.
 fn past_raw_bytes(text: &str) -> Option<&str>
-    ensures tries { ReadsLongest (After 98 (After 114 IsRaw)) (chars text.now) result }
+    ensures tries { ReadsLongest (After lower_b (After lower_r IsRaw)) (chars text.now) result }
     ensures utf8 { IfSome result (λ rest. IsUtf8 rest.now) }
 {
     let rest = past_char(text, 'b')?;
@@ -91,7 +92,7 @@ fn past_raw_bytes(text: &str) -> Option<&str>
 
 /// Returns the rest of `text` after a leading `cr`, the rest of a raw string and its suffix.
 fn past_raw_c(text: &str) -> Option<&str>
-    ensures tries { ReadsLongest (After 99 (After 114 IsRaw)) (chars text.now) result }
+    ensures tries { ReadsLongest (After lower_c (After lower_r IsRaw)) (chars text.now) result }
     ensures utf8 { IfSome result (λ rest. IsUtf8 rest.now) }
 {
     let rest = past_char(text, 'c')?;

@@ -28,6 +28,6 @@ pub fn in_raw_quotes(text: &str) -> Option<&str>
         return None;
     }
     // The closing takes as many bytes as a quote and the number signs.
-    let (contents, _) = start.split_at(start.len() - hashes.len() - 1);
+    let (contents, _) = start.split_at(start.len() - (hashes.len() + 1));
     Some(contents)
 }

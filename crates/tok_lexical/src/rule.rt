@@ -1,6 +1,7 @@
 //! The rules of the lexical grammar, and the order in which the lexer tries them.
 ghost use Rattle.std.specs.Prelude.{◌≡◌, ◌++◌, ◌∷◌, [], ℕ, List, true, false, IfSome, MatchOption};
 ghost use Rattle.std.specs.Str.{chars, IsUtf8};
+ghost use Rattle.tok_lexical.specs.Ascii.{apostrophe};
 ghost use Rattle.tok_lexical.specs.Fits.{IsFirstFit, ReadsByRules};
 ghost use Rattle.tok_lexical.specs.Widths.{is_group_mark, width};
 ghost use Rattle.tok_lexical.specs.Pieces.{ReadsLongest, Skips};
@@ -337,7 +338,7 @@ fn opens_literal(rest: &str) -> bool
 // end.
 #[inline(never)]
 fn past_apostrophe<'a>(mode: Mode, text: &'a str, rest: &'a str) -> (Rule, &'a str)
-    requires { chars text.now ≡ 39 ∷ chars rest.now }
+    requires { chars text.now ≡ apostrophe ∷ chars rest.now }
     ensures fits { (piece : List ℕ)
         × IsFirstFit (chars text.now) (rules_of mode) result.0 piece (chars result.1.now) }
     ensures utf8 { IsUtf8 result.1.now }

@@ -1,6 +1,7 @@
 //! Functions that skip strings.
 ghost use Rattle.std.specs.Prelude.{IfSome, length, ◌<◌};
 ghost use Rattle.std.specs.Str.{chars, IsUtf8};
+ghost use Rattle.tok_lexical.specs.Ascii.{lower_b, lower_c};
 ghost use Rattle.tok_lexical.specs.Pieces.{After, ReadsLongest};
 ghost use Rattle.tok_lexical.specs.Private.Finds.{FindsUnits, ReadsPrefix};
 ghost use Rattle.tok_lexical.specs.Strings.{EscapeOf, IsString};
@@ -80,7 +81,7 @@ pub fn past_string(text: &str) -> Option<&str>
 /// Returns `None` if `text` does not begin with a byte string literal.
 #[inline(never)]
 pub fn past_byte_string(text: &str) -> Option<&str>
-    ensures tries { ReadsLongest (After 98 (IsString Bytes)) (chars text.now) result }
+    ensures tries { ReadsLongest (After lower_b (IsString Bytes)) (chars text.now) result }
     ensures utf8 { IfSome result (λ rest. IsUtf8 rest.now) }
 {
     let rest = past_char(text, 'b')?;
@@ -92,7 +93,7 @@ pub fn past_byte_string(text: &str) -> Option<&str>
 /// Returns `None` if `text` does not begin with a C string literal.
 #[inline(never)]
 pub fn past_c_string(text: &str) -> Option<&str>
-    ensures tries { ReadsLongest (After 99 (IsString C)) (chars text.now) result }
+    ensures tries { ReadsLongest (After lower_c (IsString C)) (chars text.now) result }
     ensures utf8 { IfSome result (λ rest. IsUtf8 rest.now) }
 {
     let rest = past_char(text, 'c')?;

@@ -2,6 +2,7 @@
 ghost use Rattle.std.specs.Prelude.{◌≡◌, ℕ, List, IfSome, MatchBool};
 ghost use Rattle.std.specs.Str.{chars, IsUtf8};
 ghost use Rattle.unicode_ident.specs.Ident.{is_xid_continue};
+ghost use Rattle.tok_lexical.specs.Ascii.{apostrophe};
 ghost use Rattle.tok_lexical.specs.Following.{starts_name};
 ghost use Rattle.tok_lexical.specs.Pieces.{After, IsLongestPrefix, ReadsLongest, Skips};
 ghost use Rattle.tok_lexical.specs.Words.{IsIdentifier, IsRawIdentifier, IsName, IsSuffix, is_identifier_start, has_no_raw, is_missing_raw, is_plain, is_raw_prefix};
@@ -54,7 +55,13 @@ fn past_any_continues(text: &str) -> &str
 {
     let mut rest = text;
     while let Some((c, after)) = next_char(rest) {
-        if !goes_on(c) {
+        // The first byte tells whether the character is ASCII, so `goes_on` need not compare it.
+        let passes = if begins_beyond_ascii(rest) {
+            is_xid_continue(c)
+        } else {
+            goes_on(c)
+        };
+        if !passes {
             break;
         }
         rest = after;
@@ -135,7 +142,7 @@ pub fn past_name(text: &str) -> Option<&str>
 /// Returns `None` if `text` does not begin with a lifetime.
 #[inline(always)]
 pub fn past_lifetime(text: &str) -> Option<&str>
-    ensures tries { ReadsLongest (After 39 IsName) (chars text.now) result }
+    ensures tries { ReadsLongest (After apostrophe IsName) (chars text.now) result }
     ensures utf8 { IfSome result (λ rest. IsUtf8 rest.now) }
 {
     let name = past_char(text, '\'')?;
@@ -147,7 +154,7 @@ pub fn past_lifetime(text: &str) -> Option<&str>
 /// Returns `None` if `text` does not begin with such a lifetime.
 #[inline(always)]
 pub fn past_plain_lifetime(text: &str) -> Option<&str>
-    ensures tries { ReadsLongest (After 39 IsIdentifier) (chars text.now) result }
+    ensures tries { ReadsLongest (After apostrophe IsIdentifier) (chars text.now) result }
     ensures utf8 { IfSome result (λ rest. IsUtf8 rest.now) }
 {
     let word = past_char(text, '\'')?;

@@ -5,26 +5,15 @@ use Rattle.std.specs.Prelude.{encode_utf8, encode_utf8_all, fold, if◌then◌el
 use Rattle.std.specs.Char.{is_digit, digit_value}
 use Rattle.std.specs.Str.{chars, IsUtf8}
 use Rattle.std.proofs.lemmas.Bool.{cases_lt, false_from_ne_true}
-use Rattle.std.proofs.lemmas.Bool.Decides.{nat_tests}
 use Rattle.std.proofs.lemmas.Grind.{fold-append}
 use Rattle.std.proofs.lemmas.List.{append-nil}
 use Rattle.std.proofs.lemmas.Str.{encode_ascii, encodes-chars, inside_one}
-use Rattle.tok_lexical.specs.Numbers.{is_digit_or_underscore, starts_digit}
-use Rattle.tok_lexical.specs.Scans.{IsAsciiTest}
+use Rattle.tok_lexical.specs.Numbers.{starts_digit}
 use Rattle.tok_lexical.specs.Private.Scans.{AllPass}
+use Rattle.tok_lexical.proofs.Digits.{digit_low}
 use Rattle.tok_lexical.proofs.Runs.{ascii_test, begins_as}
 use Rattle.tok_values.specs.Numbers.{number}
 use Rattle.tok_values.proofs.Digits.{step}
-
-digit_low : (radix c : ℕ) → radix ≤ 16 → is_digit c radix ≡ true → c < 128
-digit_low radix c h p = grind (arith, nat_tests)
-
-passes_low : (radix c : ℕ) → radix ≤ 16 → is_digit_or_underscore radix c ≡ true → c < 128
-passes_low radix c h p = grind (arith, nat_tests)
-
-pub digits_ascii_test : (radix : ℕ) → radix ≤ 16 → IsAsciiTest (is_digit_or_underscore radix)
-digits_ascii_test radix h =
-    ascii_test (is_digit_or_underscore radix) (λ c p. passes_low radix c h p)
 
 pub first_digit : (text : List ℕ) (x : ℕ) → IsUtf8 text → 0 < length text → x ≡ get_or text 0 0 →
     is_digit x 10 ≡ starts_digit (chars text)

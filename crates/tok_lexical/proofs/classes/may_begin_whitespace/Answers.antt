@@ -1,12 +1,12 @@
-use Rattle.std.proofs.Common.{◌≡◌, ◌<◌, length, get_or, rules, arith}
+use Rattle.std.proofs.Common.{◌≡◌, length, get_or, rules, arith}
 use Rattle.tok_lexical.proofs.Texts.{nothing_begins}
 use Rattle.tok_lexical.proofs.WhiteSpace.{other_begins}
 use Rattle.tok_lexical.proofs.classes.may_begin_whitespace.Goals as goal
 
-pub returns-else-byte-le194 : goal.returns-else-byte-le194
-returns-else-byte-le194 c begins =
+pub returns-in-Some : goal.returns-in-Some
+returns-in-Some c begins =
     let is : c.in-Some.byte.now ≡ get_or c.args.text.now 0 0 = search rules in
-    let high : 0xC2 < c.in-Some.byte.now = omega (arith, c.if-byte-le194.false) in
+    let high = c.if-byte-gt194.true in
     let told = other_begins c.args.text.now c.utf8.text (λ low. omega (arith, is, high)) begins in
     grind (arith, is, high, told)
 

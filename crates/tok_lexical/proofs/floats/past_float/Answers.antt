@@ -1,8 +1,7 @@
 use Rattle.std.proofs.Common.{◌∙◌, sym}
 use Rattle.tok_lexical.specs.Floats.{IsFloatTail}
-use Rattle.tok_lexical.specs.Numbers.{starts_digit}
 use Rattle.tok_lexical.proofs.FloatTails.{tail_begins}
-use Rattle.tok_lexical.proofs.Digits.{tries_run, none_decimal, digits_start}
+use Rattle.tok_lexical.proofs.Digits.{tries_digits, none_decimal}
 use Rattle.tok_lexical.proofs.floats.past_float.Goals as goal
 
 pub returns-then-not-starts_digit-clause-tries : goal.returns-then-not-starts_digit-clause-tries
@@ -10,7 +9,6 @@ returns-then-not-starts_digit-clause-tries c = none_decimal _ _ (sym c.starts_di
     ∙ c.if-not-starts_digit.true)
 
 pub returns-clause-tries : goal.returns-clause-tries
-returns-clause-tries c = tries_run 10 starts_digit IsFloatTail tail_begins _ _
-    c.past_digits.ensures.skips.0 _ c.past_digits.ensures.skips.1
-    (digits_start _ _ _ c.past_digits.ensures.skips.1 (sym c.starts_digit.ensures
-    ∙ c.if-not-starts_digit.false)) c.past_float_tail.ensures.tries
+returns-clause-tries c = tries_digits IsFloatTail tail_begins _ _ _ _
+    c.past_decimals-rest.ensures.1 (sym c.starts_digit.ensures ∙ c.if-not-starts_digit.false)
+    c.past_float_tail.ensures.tries

@@ -1,7 +1,6 @@
 use Rattle.std.proofs.Common.{◌≡◌, ◌∷◌, [], ◌∙◌, sym}
-use Rattle.tok_lexical.specs.Numbers.{starts_digit}
 use Rattle.tok_lexical.proofs.FloatTails.{point_begins, tries_point}
-use Rattle.tok_lexical.proofs.Digits.{tries_run, none_decimal, digits_start}
+use Rattle.tok_lexical.proofs.Digits.{tries_digits, none_decimal}
 use Rattle.tok_lexical.proofs.floats.past_pointed.Goals as goal
 
 pub returns-then-not-starts_digit-clause-tries : goal.returns-then-not-starts_digit-clause-tries
@@ -9,7 +8,6 @@ returns-then-not-starts_digit-clause-tries c = none_decimal _ _ (sym c.starts_di
     ∙ c.if-not-starts_digit.true)
 
 pub returns-clause-tries : goal.returns-clause-tries
-returns-clause-tries c = tries_run 10 starts_digit (λ tail. tail ≡ 46 ∷ []) point_begins _ _
-    c.past_digits.ensures.skips.0 _ c.past_digits.ensures.skips.1
-    (digits_start _ _ _ c.past_digits.ensures.skips.1 (sym c.starts_digit.ensures
-    ∙ c.if-not-starts_digit.false)) (tries_point _ _ c.past_char.ensures.chars)
+returns-clause-tries c = tries_digits (λ tail. tail ≡ 46 ∷ []) point_begins _ _ _ _
+    c.past_decimals-rest.ensures.1 (sym c.starts_digit.ensures ∙ c.if-not-starts_digit.false)
+    (tries_point _ _ c.past_char.ensures.chars)

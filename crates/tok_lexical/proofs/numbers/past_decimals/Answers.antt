@@ -1,10 +1,11 @@
+use Rattle.std.proofs.Common.{arith}
 use Rattle.tok_lexical.specs.Numbers.{is_digit_or_underscore}
-use Rattle.tok_lexical.proofs.Digits.{decimals_ascii_test, digit_first}
+use Rattle.tok_lexical.proofs.Digits.{digits_ascii_test, digit_first}
 use Rattle.tok_lexical.proofs.Longest.{skips_after}
 use Rattle.tok_lexical.proofs.numbers.past_decimals.Goals as goal
 
 pub past_rare_run-requires : goal.past_rare_run-requires
-past_rare_run-requires c = record { ascii = decimals_ascii_test }
+past_rare_run-requires c = record { ascii = digits_ascii_test 10 (omega arith) }
 
 pub returns : goal.returns
 returns c =

@@ -1,46 +1,35 @@
 use Rattle.std.proofs.Common.{◌∙◌, arith, sym}
-use Rattle.tok_lexical.proofs.RawQuotes.{closing_boundary, closing_length, contents_chars}
-use Rattle.tok_lexical.proofs.RawQuotes.{quotes_end, quotes_found, quotes_raw, some_left}
+use Rattle.tok_lexical.proofs.RawQuotes.{quotes_end, quotes_found, quotes_raw}
 use Rattle.tok_lexical.proofs.RawStrings.{raw_long, raw_open, raw_unquoted, signs, signs_length}
+use Rattle.tok_lexical.proofs.Texts.{some_left}
 use Rattle.tok_lexical.proofs.raw_quotes.in_raw_quotes.Goals as goal
 
 pub overflow_sub-start : goal.overflow_sub-start
 overflow_sub-start c =
-    let s = signs _ _ _ c.past_number_signs-quote.ensures c.front_of-hashes.ensures.is in
-    let (contents, e, read) = quotes_found _ _ c.front_of-hashes.result.now c.in_ok-start.start.now
-    c.in_ok-end.end.now s c.front_of-hashes.utf8 (omega (arith, c.if-hashes-gt-MOST_SIGNS.false))
-    c.in_ok-start.ensures.chars (sym c.is_empty.ensures ∙ c.if-not-is_empty.false)
-    c.in_ok-end.ensures.finds in
-    omega (arith, closing_length _ _ contents c.in_ok-start.ensures.utf8 c.front_of-hashes.utf8 e)
-
-pub overflow_sub-start-2 : goal.overflow_sub-start-2
-overflow_sub-start-2 c =
-    let s = signs _ _ _ c.past_number_signs-quote.ensures c.front_of-hashes.ensures.is in
-    let (contents, e, read) = quotes_found _ _ c.front_of-hashes.result.now c.in_ok-start.start.now
-    c.in_ok-end.end.now s c.front_of-hashes.utf8 (omega (arith, c.if-hashes-gt-MOST_SIGNS.false))
-    c.in_ok-start.ensures.chars (sym c.is_empty.ensures ∙ c.if-not-is_empty.false)
-    c.in_ok-end.ensures.finds in
-    omega (arith, closing_length _ _ contents c.in_ok-start.ensures.utf8 c.front_of-hashes.utf8 e)
+    let whole = quotes_found _ _ c.front_of-hashes.result.now c.in_ok-start.start.now
+    c.in_ok-end.end.now c.past_number_signs-quote.ensures c.front_of-hashes.ensures.is
+    c.front_of-hashes.utf8 c.in_ok-start.ensures.utf8
+    (omega (arith, c.if-hashes-gt-MOST_SIGNS.false)) c.in_ok-start.ensures.chars
+    (sym c.is_empty.ensures ∙ c.if-not-is_empty.false) c.in_ok-end.ensures.finds in
+    omega (arith, whole.fits)
 
 pub split_at-requires : goal.split_at-requires
 split_at-requires c =
-    let s = signs _ _ _ c.past_number_signs-quote.ensures c.front_of-hashes.ensures.is in
-    let (contents, e, read) = quotes_found _ _ c.front_of-hashes.result.now c.in_ok-start.start.now
-    c.in_ok-end.end.now s c.front_of-hashes.utf8 (omega (arith, c.if-hashes-gt-MOST_SIGNS.false))
-    c.in_ok-start.ensures.chars (sym c.is_empty.ensures ∙ c.if-not-is_empty.false)
-    c.in_ok-end.ensures.finds in
-    closing_boundary _ _ contents c.in_ok-start.ensures.utf8 c.front_of-hashes.utf8 e
+    let whole = quotes_found _ _ c.front_of-hashes.result.now c.in_ok-start.start.now
+    c.in_ok-end.end.now c.past_number_signs-quote.ensures c.front_of-hashes.ensures.is
+    c.front_of-hashes.utf8 c.in_ok-start.ensures.utf8
+    (omega (arith, c.if-hashes-gt-MOST_SIGNS.false)) c.in_ok-start.ensures.chars
+    (sym c.is_empty.ensures ∙ c.if-not-is_empty.false) c.in_ok-end.ensures.finds in
+    whole.boundary
 
 pub returns-clause-reads : goal.returns-clause-reads
 returns-clause-reads c =
-    let s = signs _ _ _ c.past_number_signs-quote.ensures c.front_of-hashes.ensures.is in
-    let (contents, e, read) = quotes_found _ _ c.front_of-hashes.result.now c.in_ok-start.start.now
-    c.in_ok-end.end.now s c.front_of-hashes.utf8 (omega (arith, c.if-hashes-gt-MOST_SIGNS.false))
-    c.in_ok-start.ensures.chars (sym c.is_empty.ensures ∙ c.if-not-is_empty.false)
-    c.in_ok-end.ensures.finds in
-    let same = contents_chars _ _ contents c.in_ok-start.ensures.utf8 c.front_of-hashes.utf8 e _
-    c.split_at.ensures.front in
-    rw same read
+    let whole = quotes_found _ _ c.front_of-hashes.result.now c.in_ok-start.start.now
+    c.in_ok-end.end.now c.past_number_signs-quote.ensures c.front_of-hashes.ensures.is
+    c.front_of-hashes.utf8 c.in_ok-start.ensures.utf8
+    (omega (arith, c.if-hashes-gt-MOST_SIGNS.false)) c.in_ok-start.ensures.chars
+    (sym c.is_empty.ensures ∙ c.if-not-is_empty.false) c.in_ok-end.ensures.finds in
+    whole.reads _ c.split_at.ensures.front
 
 pub returns-then-hashes-gt-MOST_SIGNS-clause-reads :
     goal.returns-then-hashes-gt-MOST_SIGNS-clause-reads

@@ -1,10 +1,10 @@
 use Rattle.std.proofs.Common.{◌≡◌, ◌∙◌, ◌∷◌, ap, refl, sym, false, rules, tests}
 use Rattle.std.proofs.lemmas.Bool.{eqb-true}
 use Rattle.std.specs.Str.{chars}
-use Rattle.tok_lexical.proofs.First.{decides_at, none_more, none_at_all, none_fits}
+use Rattle.tok_lexical.proofs.First.{decides_at, decides_last, none_more, none_fits}
 use Rattle.tok_lexical.proofs.First.{decides_listed, decides_letter, decides_one, fits_front}
 use Rattle.tok_lexical.proofs.First.{decides_line, decides_quote, decides_string, told}
-use Rattle.tok_lexical.proofs.First.{fits_behind, last_identifier, last_punct, last_other}
+use Rattle.tok_lexical.proofs.First.{last_identifier, last_punct, last_other}
 use Rattle.tok_lexical.proofs.Slashes.{decides_alone}
 use Rattle.tok_lexical.specs.Private.Starts.{tells}
 use Rattle.tok_lexical.specs.Rules.{last_rules}
@@ -89,35 +89,23 @@ loop-rule-preserved c = none_more _ _ _ ByteOrderMark c.loop-rule-test.true c.lo
 pub returns-in-Some-past_identifier-clause-tries : goal.returns-in-Some-past_identifier-clause-tries
 returns-in-Some-past_identifier-clause-tries c =
     let untold : tells c.of-start.result ≡ false = search (rules, tests) in
-    let none = none_at_all _ _ _ c.loop-rule-test.false c.loop-rule.invariant in
-    let found = last_identifier c.in_ok-first.first _ _ c.in_ok-first.ensures.chars _
-    c.in-Some-past_identifier.ensures.tries in (
-      found.0,
-      decides_listed c.args.mode c.in_ok-first.first _ _ _ c.in_ok-first.ensures.chars
-          (sym c.of-start.ensures) (c.at-those.ensures untold)
-          (fits_behind c.at-those.result.now last_rules _ _ _ _ none found.1),
-    )
+    decides_last _ _ _ _ _ _ _ _ _ c.in_ok-first.ensures.chars (sym c.of-start.ensures)
+    (c.at-those.ensures untold) c.loop-rule-test.false c.loop-rule.invariant
+    (last_identifier c.in_ok-first.first _ _ c.in_ok-first.ensures.chars _
+    c.in-Some-past_identifier.ensures.tries)
 
 pub returns-then-is_punct-clause-tries : goal.returns-then-is_punct-clause-tries
 returns-then-is_punct-clause-tries c =
     let untold : tells c.of-start.result ≡ false = search (rules, tests) in
-    let none = none_at_all _ _ _ c.loop-rule-test.false c.loop-rule.invariant in
-    let found = last_punct c.in_ok-first.first _ _ c.in_ok-first.ensures.chars
-    c.in_default-past_identifier.ensures.tries (sym c.if-is_punct.ensures) in (
-      found.0,
-      decides_listed c.args.mode c.in_ok-first.first _ _ _ c.in_ok-first.ensures.chars
-          (sym c.of-start.ensures) (c.at-those.ensures untold)
-          (fits_behind c.at-those.result.now last_rules _ _ _ _ none found.1),
-    )
+    decides_last _ _ _ _ _ _ _ _ _ c.in_ok-first.ensures.chars (sym c.of-start.ensures)
+    (c.at-those.ensures untold) c.loop-rule-test.false c.loop-rule.invariant
+    (last_punct c.in_ok-first.first _ _ c.in_ok-first.ensures.chars
+    c.in_default-past_identifier.ensures.tries (sym c.if-is_punct.ensures))
 
 pub returns-else-is_punct-clause-tries : goal.returns-else-is_punct-clause-tries
 returns-else-is_punct-clause-tries c =
     let untold : tells c.of-start.result ≡ false = search (rules, tests) in
-    let none = none_at_all _ _ _ c.loop-rule-test.false c.loop-rule.invariant in
-    let found = last_other c.in_ok-first.first _ _ c.in_ok-first.ensures.chars
-    c.in_default-past_identifier.ensures.tries (sym c.if-is_punct.ensures) in (
-      found.0,
-      decides_listed c.args.mode c.in_ok-first.first _ _ _ c.in_ok-first.ensures.chars
-          (sym c.of-start.ensures) (c.at-those.ensures untold)
-          (fits_behind c.at-those.result.now last_rules _ _ _ _ none found.1),
-    )
+    decides_last _ _ _ _ _ _ _ _ _ c.in_ok-first.ensures.chars (sym c.of-start.ensures)
+    (c.at-those.ensures untold) c.loop-rule-test.false c.loop-rule.invariant
+    (last_other c.in_ok-first.first _ _ c.in_ok-first.ensures.chars
+    c.in_default-past_identifier.ensures.tries (sym c.if-is_punct.ensures))

@@ -1,6 +1,6 @@
 use Rattle.tok_lexical.specs.Numbers.{is_digit_or_underscore}
 use Rattle.tok_lexical.proofs.Runs.{run_boundary, skips_run}
-use Rattle.tok_values.proofs.Numerals.{digits_ascii_test}
+use Rattle.tok_lexical.proofs.Digits.{digits_ascii_test}
 use Rattle.tok_values.proofs.integers.past_digits.Goals as goal
 
 pub split_at-requires : goal.split_at-requires
