@@ -30,6 +30,7 @@ use Rattle.tok_leaves.specs.declared.span.Span.{Span}
 use Rattle.tok_values.specs.Laws.{StringsAreRead, StringsKeepText}
 use Rattle.tok_values.specs.Values.{IntegersHaveOneValue, StringsHaveOneValue}
 use Rattle.tok_core.specs.Forest.{forest, group, leaf, no_trees, tree}
+use Rattle.tok_core.specs.Lexical.Items.{most_levels}
 use Rattle.tok_core.specs.Lexical.Reading.{ReadsForest}
 use Rattle.tok_core.proofs.Lexical.Laws.{forest_once, never_both}
 use Rattle.syn_parse.proofs.Shapes.{found_first}
@@ -354,16 +355,16 @@ module _ (source : ℕ) (keep : StringsKeepText) (are_read : StringsAreRead)
   -- what a text of settings is read as
   abbrev AllRead : List SettingForm → Type 0
   AllRead ss =
-      ReadsAll setting_spanless IsSetting source AreSettings 256 0 (chars (settings_text ss))
-      (bare_settings (setting_forms ss)) []
+      ReadsAll setting_spanless IsSetting source AreSettings most_levels 0
+      (chars (settings_text ss)) (bare_settings (setting_forms ss)) []
 
   all_read : (ss : List SettingForm) → IsConfigOfText ss → AllRead ss
   all_read ss h =
-      subst (λ t. ReadsAll setting_spanless IsSetting source AreSettings 256 0 (chars t)
+      subst (λ t. ReadsAll setting_spanless IsSetting source AreSettings most_levels 0 (chars t)
       (bare_settings (setting_forms ss)) []) (lines_are ss)
       (lines_read setting_spanless IsSetting source AreSettings no_setting last_setting and_settings
-      256 0 (setting_texts (setting_forms ss)) (bare_settings (setting_forms ss))
-      (settings_read 256 (setting_forms ss) h.0 h.1))
+      most_levels 0 (setting_texts (setting_forms ss)) (bare_settings (setting_forms ss))
+      (settings_read most_levels (setting_forms ss) h.0 h.1))
 
   -- what the reader returns
   parsed_back : (ss : List SettingForm) (k : AllRead ss)

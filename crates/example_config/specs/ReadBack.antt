@@ -5,6 +5,7 @@ use Rattle.std.specs.Str.{IsUtf8, chars}
 use Rattle.tok_lexical.specs.Words.{IsName, is_missing_raw}
 use Rattle.tok_leaves.specs.declared.ident.Ident.{Ident}
 use Rattle.tok_leaves.specs.Spans.{call_site}
+use Rattle.tok_core.specs.Lexical.Items.{most_levels}
 use Rattle.syn_parse.specs.Faults.{IsMemory}
 use Rattle.syn_parse.specs.TokenNames.{Comma, Token}
 use Rattle.syn_parse.specs.declared.fault.Fault.{Fault}
@@ -66,7 +67,8 @@ abbrev mutual
 -- settings that a text can have: their lists and maps have at most 256 levels
 abbrev pub IsConfigOfText : List SettingForm → Type 0
 IsConfigOfText settings =
-    AreSettingsOfText (setting_forms settings) × (settings_depth (setting_forms settings) ≤ 256)
+    AreSettingsOfText (setting_forms settings)
+    × (settings_depth (setting_forms settings) ≤ most_levels)
 
 -- a key at the call site
 abbrev pub key_spanless : Ident → Ident

@@ -1,39 +1,24 @@
 -- Moves of a cursor, one after another.
-use Rattle.std.proofs.Common.{◌≡◌, ◌<◌, ◌≤◌, List, Some, arith}
+use Rattle.std.proofs.Common.{◌≡◌, List, Some, arith}
 use Rattle.tok_lexical.specs.declared.delimiter.Delimiter.{Delimiter}
 use Rattle.tok_core.specs.Forest.{Tree}
 use Rattle.tok_buffer.specs.Entry.{Entered, enter, enter_any}
 use Rattle.tok_buffer.specs.Place.{Place}
-use Rattle.tok_buffer.specs.Progress.{EntriesGoOn, ReadsGoOn, StaysAlong, remaining}
+use Rattle.tok_buffer.specs.Progress.{EntriesGoOn, ReadsGoOn, StaysAlong}
 use Rattle.tok_buffer.specs.Reads.{read_ident, read_punct}
 use Rattle.outline.specs.Passing.{Passes, Stays}
 
--- a move, and a move past something
-pub passes_then : StaysAlong → (p q r : Place) → Stays p q → Passes q r → Passes p r
-passes_then law p q r one two =
-    let first : remaining q ≤ remaining p = one.1 in
-    let second : remaining r < remaining q = two.1 in
-    let both : remaining r < remaining p = omega (arith, first, second) in
-    (law.along p q r one.0 two.0, both)
-
 -- a move past something adds nothing
 pub passes_stays : (p q : Place) → Passes p q → Stays p q
-passes_stays p q one =
-    let first : remaining q < remaining p = one.1 in
-    let less : remaining q ≤ remaining p = omega (arith, first) in
-    (one.0, less)
+passes_stays p q one = grind arith
 
 -- two moves past something
 pub passes_along : StaysAlong → (p q r : Place) → Passes p q → Passes q r → Passes p r
-passes_along law p q r one two = passes_then law p q r (passes_stays p q one) two
+passes_along law p q r one two = grind (arith, law.along)
 
 -- a move past something, and another move
 pub passes_on : StaysAlong → (p q r : Place) → Passes p q → Stays q r → Passes p r
-passes_on law p q r one two =
-    let first : remaining q < remaining p = one.1 in
-    let second : remaining r ≤ remaining q = two.1 in
-    let both : remaining r < remaining p = omega (arith, first, second) in
-    (law.along p q r one.0 two.0, both)
+passes_on law p q r one two = grind (arith, law.along)
 
 -- a name
 pub past_ident : ReadsGoOn → (p : Place) (ts : List Tree) (q : Place) →

@@ -4,10 +4,7 @@ use std::alloc::{AllocError, Global};
 use syn_derive::Path;
 use syn_parse::Fault;
 use tok_buffer::Cursor;
-use tok_core::TokenStream;
-
-// How deep groups may nest.
-const DEPTH: u16 = 256;
+use tok_core::{MOST_LEVELS, TokenStream};
 
 // The tokens inside a group: as arguments with `, ` between them if they are such a list, else as
 // they are printed.
@@ -15,7 +12,7 @@ pub fn show_list<'a>(alloc: Global, inside: Cursor<'a>) -> Result<String, AllocE
     match parse_arguments(alloc, inside.token_stream(alloc)?) {
         Ok(list) => {
             let mut text = String::new(alloc);
-            push_list(&mut text, &list, DEPTH)?;
+            push_list(&mut text, &list, MOST_LEVELS)?;
             Ok(text)
         }
         Err(Fault::Refused(_)) => show_tokens(alloc, inside),
@@ -63,7 +60,7 @@ fn push_line(text: &mut String, more: &str) -> Result<(), AllocError> {
     Ok(())
 }
 
-fn push_list(text: &mut String, list: &Arguments, depth: u16) -> Result<(), AllocError> {
+fn push_list(text: &mut String, list: &Arguments, depth: usize) -> Result<(), AllocError> {
     let mut comma = "";
     for argument in list.iter() {
         text.push_str(comma)?;

@@ -1,5 +1,6 @@
 -- Forests in which no joint apostrophe is at the edge of an invisible group.
 use Rattle.std.specs.Prelude.{Bool, true, false, not, ◌&&◌, ◌==◌}
+use Rattle.tok_lexical.specs.Ascii.{apostrophe}
 use Rattle.tok_lexical.specs.declared.delimiter.Delimiter.TheVariants.{None}
 use Rattle.tok_leaves.specs.declared.punct.Spacing.TheVariants.{Joint}
 use Rattle.tok_leaves.specs.Leaves.{punct}
@@ -7,7 +8,7 @@ use Rattle.tok_core.specs.Forest.{Tree, leaf, group, Forest, no_trees, tree}
 
 -- a `'` directly before the next tree, as in a lifetime
 abbrev pub is_joint_apostrophe : Tree → Bool
-is_joint_apostrophe (leaf (punct c Joint span)) = c == 39
+is_joint_apostrophe (leaf (punct c Joint span)) = c == apostrophe
 is_joint_apostrophe t = false
 
 -- a group whose delimiter is `None`

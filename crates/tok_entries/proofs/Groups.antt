@@ -9,7 +9,7 @@ use Rattle.tok_leaves.specs.Spans.{source, opening_span, closing_span}
 use Rattle.tok_core.specs.Forest.{group, Forest}
 use Rattle.tok_core.specs.Weight.{weight}
 use Rattle.tok_entries.specs.declared.entry.Entry.{Entry}
-use Rattle.tok_entries.specs.Entries.{edge, entries, texts, tree_entries, delimiter_number}
+use Rattle.tok_entries.specs.Entries.{edge, entries, texts, tree_entries, delimiter_code}
 use Rattle.tok_entries.specs.declared.intake.group.GroupParts.{GroupParts}
 use Rattle.tok_entries.specs.Denotes.{DenotesFrom}
 use Rattle.tok_entries.specs.Blames.{Encloses, FitsLeaf, OpensGroup, TakesTree}
@@ -66,7 +66,7 @@ module _ (at : ℕ) (first : Entry) (after later held : List Entry) (words : Lis
     pub span_is : IsInSource s → s ≡ source 0 first.start closing.end
     span_is (a, b, le, h) = cc (start_is a b h, end_is a b h)
 
-    pub delimiter_is : (c : Delimiter) → delimiter_number c ≡ first.delimiter → d ≡ c
+    pub delimiter_is : (c : Delimiter) → delimiter_code c ≡ first.delimiter → d ≡ c
     delimiter_is c h =
         delimiter_once d c (cc opening_is)
 
@@ -105,7 +105,7 @@ no_span at first closing after inside others bs cut far less
 -- fields of an edge that don't fit
 pub no_edges : (at : ℕ) (first closing : Entry) (after inside others : List Entry) (bs : List ℕ)
     (c : Delimiter) (r : Span) → after ≡ inside ++ closing ∷ others
-    → first.distance ≡ length inside + 1 → delimiter_number c ≡ first.delimiter
+    → first.distance ≡ length inside + 1 → delimiter_code c ≡ first.delimiter
     → r ≡ source 0 first.start closing.end → (AreEdges first closing c r at → ⊥)
     → OpensGroup at (first ∷ after) bs → ⊥
 no_edges at first closing after inside others bs c r cut far hc hr none

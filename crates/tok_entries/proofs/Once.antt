@@ -17,7 +17,7 @@ use Rattle.tok_core.specs.Weight.{weight}
 use Rattle.tok_entries.specs.declared.entry.Entry.{Entry}
 use Rattle.tok_entries.specs.Denotes.{Denotes}
 use Rattle.tok_entries.specs.Entries.{edge, entries, texts, tree_entries, tree_texts, leaf_entry}
-use Rattle.tok_entries.specs.Entries.{leaf_kind, spacing_number, delimiter_number, first_byte, end_byte}
+use Rattle.tok_entries.specs.Entries.{leaf_kind, spacing_number, delimiter_code, first_byte, end_byte}
 use Rattle.tok_entries.specs.Texts.{IsForestIn, IsInSource, IsLeafText, IsTreeIn}
 use Rattle.tok_entries.proofs.Fillings.{length-entries}
 
@@ -63,7 +63,7 @@ group_span_once s r (a, b, le, hs) (c, d, ge, hr) e f =
     let eb : b ≡ d = cc (closing_last a b, closing_last c d) in
     cc
 
-pub delimiter_once : (d e : Delimiter) → delimiter_number d ≡ delimiter_number e → d ≡ e
+pub delimiter_once : (d e : Delimiter) → delimiter_code d ≡ delimiter_code e → d ≡ e
 delimiter_once delimiters.Parenthesis delimiters.Parenthesis h = refl
 delimiter_once delimiters.Brace delimiters.Brace h = refl
 delimiter_once delimiters.Bracket delimiters.Bracket h = refl

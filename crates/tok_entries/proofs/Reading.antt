@@ -20,7 +20,7 @@ use Rattle.tok_core.specs.Erase.{erase}
 use Rattle.tok_core.specs.Filled.{has_trees}
 use Rattle.tok_core.specs.Forest.{Tree, leaf, group, Forest, no_trees, tree}
 use Rattle.tok_core.specs.Weight.{weight}
-use Rattle.tok_entries.specs.Entries.{BeginsWith, delimiter_number, edge, leaf_entry, leaf_kind}
+use Rattle.tok_entries.specs.Entries.{BeginsWith, delimiter_code, edge, leaf_entry, leaf_kind}
 use Rattle.tok_entries.specs.Entries.{texts, tree_entries, tree_texts}
 use Rattle.tok_entries.specs.Visible.{FindsInvisible, FindsLifetime, FindsTree}
 use Rattle.tok_entries.specs.Visible.{HasNoLifetime, IsLeft, IsVisible, Reads, ReadsFirst}
@@ -352,12 +352,12 @@ grouped d bs begin (leaf_front at es l more f cut h) =
     (λ t rest e fits. false≢true
     (ap (is_group_of d) (same_first (leaf l) t f rest e) ∙ fits))
 grouped d bs begin (group_front at es g inside span more f v cut h) =
-    go (delimiter_number g == delimiter_number d) refl
+    go (delimiter_code g == delimiter_code d) refl
   where
     first : slice_get es (front es) ≡ Some (edge 3 g (opening_span span) at (weight inside + 1))
     first = front_entry es _ (edge 3 g (opening_span span) at (weight inside + 1)) cut
 
-    go : (b : Bool) → (delimiter_number g == delimiter_number d) ≡ b
+    go : (b : Bool) → (delimiter_code g == delimiter_code d) ≡ b
         → Reads (is_group_of d) at bs es (tree (group g (erase inside) span) f)
         (read_group_at d es (front es))
     go true fits =

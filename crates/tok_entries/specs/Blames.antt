@@ -6,11 +6,10 @@ use Rattle.tok_leaves.specs.declared.span.Span.{Span}
 use Rattle.tok_leaves.specs.Leaves.{Leaf, leaf_span, leaf_spacing, leaf_text}
 use Rattle.tok_leaves.specs.Spans.{opening_span, closing_span}
 use Rattle.tok_core.specs.Forest.{Tree, no_trees, tree}
-use Rattle.tok_core.specs.Lexical.Items.{depth}
+use Rattle.tok_core.specs.Lexical.Items.{depth, most_levels}
 use Rattle.tok_entries.specs.declared.entry.Entry.{Entry}
 use Rattle.tok_entries.specs.declared.intake.fault.Refusal.{Refusal}
 use Rattle.tok_entries.specs.declared.intake.fault.Refusal.TheVariants.{Shape, Text, Depth}
-use Rattle.tok_entries.specs.Denotes.{most_levels}
 use Rattle.tok_entries.specs.Entries.{edge, leaf_as, leaf_entry, leaf_kind, spacing_number}
 use Rattle.tok_entries.specs.Entries.{tree_entries, tree_texts}
 use Rattle.tok_entries.specs.Texts.{IsInSource, IsLeafIn, IsTreeIn}

@@ -4,7 +4,8 @@ use Rattle.std.specs.Prelude.{List, drop, get_or, length, Option, Some, None, op
 use Rattle.std.specs.List.{prefix_len, slice_get}
 use Rattle.tok_lexical.specs.declared.delimiter.Delimiter.{Delimiter}
 use Rattle.tok_lexical.specs.declared.delimiter.Delimiter.TheVariants as delimiter
-use Rattle.tok_entries.specs.Entries.{delimiter_number}
+use Rattle.tok_lexical.specs.Ascii.{apostrophe}
+use Rattle.tok_entries.specs.Entries.{delimiter_code}
 use Rattle.tok_entries.specs.declared.entry.Entry.{Entry}
 use Rattle.tok_entries.specs.declared.cursor.Step.{Step}
 
@@ -18,7 +19,7 @@ is_invisible_closing e = e.kind == 4 && e.delimiter == 3
 
 -- the byte at which the text begins is an apostrophe
 abbrev pub has_apostrophe : List ℕ → Entry → Bool
-has_apostrophe bs e = get_or bs e.text_start 0 == 39
+has_apostrophe bs e = get_or bs e.text_start 0 == apostrophe
 
 -- a joint punct whose text is an apostrophe
 abbrev pub is_joint_apostrophe : List ℕ → Entry → Bool
@@ -84,7 +85,7 @@ abbrev pub read_group_at : Delimiter → List Entry → ℕ → Option Step
 read_group_at d es at =
     elim (slice_get es at) [
       | Some e ↦
-          if e.kind == 3 && e.delimiter == delimiter_number d then whole es at e.distance
+          if e.kind == 3 && e.delimiter == delimiter_code d then whole es at e.distance
           else None
       | None ↦ None
     ]

@@ -1,7 +1,7 @@
 -- Which forest entries and texts denote.
 use Rattle.std.specs.Prelude.{◌≡◌, ◌≤◌, ℕ, List}
 use Rattle.tok_core.specs.Forest.{Forest}
-use Rattle.tok_core.specs.Lexical.Items.{depth}
+use Rattle.tok_core.specs.Lexical.Items.{depth, most_levels}
 use Rattle.tok_entries.specs.declared.entry.Entry.{Entry}
 use Rattle.tok_entries.specs.Entries.{entries, texts}
 use Rattle.tok_entries.specs.Texts.{IsForestIn}
@@ -12,10 +12,6 @@ use Rattle.tok_entries.specs.Texts.{IsForestIn}
 abbrev pub DenotesFrom : (at levels : ℕ) → List Entry → List ℕ → Forest → Type 0
 DenotesFrom at levels es bs f =
     (es ≡ entries at f) × (bs ≡ texts f) × IsForestIn f × (depth f ≤ levels)
-
--- the most groups that may be nested
-abbrev pub most_levels : ℕ
-most_levels = 256
 
 -- these are all entries and texts of the forest, and no more than 256 groups are nested
 abbrev pub Denotes : List Entry → List ℕ → Forest → Type 0

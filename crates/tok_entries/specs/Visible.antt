@@ -10,7 +10,7 @@ use Rattle.tok_leaves.specs.declared.span.Span.{Span}
 use Rattle.tok_leaves.specs.Leaves.{Leaf, ident, punct, literal, leaf_text}
 use Rattle.tok_core.specs.Erase.{erase}
 use Rattle.tok_core.specs.Forest.{Tree, leaf, group, Forest, no_trees, tree}
-use Rattle.tok_entries.specs.Entries.{BeginsWith, delimiter_number, edge, leaf_entry, texts}
+use Rattle.tok_entries.specs.Entries.{BeginsWith, delimiter_code, edge, leaf_entry, texts}
 use Rattle.tok_entries.specs.Entries.{tree_entries, tree_texts}
 use Rattle.tok_entries.specs.Cursor.{read_group, read_ident, read_lifetime, read_literal}
 use Rattle.tok_entries.specs.Cursor.{read_punct, skip}
@@ -57,7 +57,7 @@ is_literal t = false
 
 -- a group of this delimiter
 abbrev pub is_group_of : Delimiter → Tree → Bool
-is_group_of d (group e inside span) = delimiter_number e == delimiter_number d
+is_group_of d (group e inside span) = delimiter_code e == delimiter_code d
 is_group_of d t = false
 
 -- a test that every tree passes

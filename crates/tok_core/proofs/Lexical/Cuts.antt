@@ -1,13 +1,11 @@
 -- The cut of a front of the text, one piece further.
 use Rattle.std.proofs.Common.{◌≡◌, ◌∙◌, ℕ, ◌+◌, ◌≤◌, List, [], ◌∷◌, ◌++◌, length, refl, sym, ap}
 use Rattle.std.proofs.Common.{arith}
-use Rattle.std.specs.Prelude.{encode_utf8_all, ◌-◌, ◌==◌, ◌||◌, true, false, None}
+use Rattle.std.specs.Prelude.{encode_utf8_all, ◌-◌, ◌||◌, true, None}
 use Rattle.std.specs.Str.{chars, IsUtf8}
 use Rattle.std.proofs.lemmas.List.{append-nil, nil_from_length}
 use Rattle.std.proofs.lemmas.List.Folds.{list_any-append}
 use Rattle.std.proofs.Math.Bool.{or-true}
-use Rattle.std.proofs.lemmas.Bool.{false≢true}
-use Rattle.std.proofs.lemmas.Str.{chars-nil, encodes-chars}
 use Rattle.tok_lexical.specs.Contents.{has_return}
 use Rattle.tok_core.specs.Forest.{Forest, no_trees}
 use Rattle.tok_lexical.specs.Fits.{NoneBefore, IsFirstFit}
@@ -17,7 +15,7 @@ use Rattle.tok_core.specs.Private.Built.{last, outer, Reached, Grows, Halts}
 use Rattle.tok_core.specs.Lexical.Errors.{OnRefused}
 use Rattle.tok_core.specs.Private.Halted.{OnHalted, fault_of}
 use Rattle.tok_core.specs.Private.Taken.{HaltsAt, Taken}
-use Rattle.tok_core.specs.Lexical.Items.{Item, no_items}
+use Rattle.tok_core.specs.Lexical.Items.{Item, most_levels, no_items}
 use Rattle.tok_lexical.specs.Errors.{error_kind}
 use Rattle.tok_core.specs.Lexical.Meaning.{items}
 use Rattle.tok_lexical.specs.Widths.{width}
@@ -137,7 +135,7 @@ module _ {begin : ℕ} {mode : Mode} {number : ℕ} {text rest : List ℕ} {at :
 
   reads_held : (all : List Item) → Cut mode number begin (chars text) all at [] →
       (groups : List (Delimiter × ℕ)) (levels : List Forest) (f : Forest) → groups ≡ [] →
-      Holds number 256 groups levels f all → (levels ≡ [])
+      Holds number most_levels groups levels f all → (levels ≡ [])
       × ReadsFrom begin mode number (chars text) f
   reads_held all c groups levels f o (last d k) = (refl, (d, (all, k, (at, c))))
   reads_held all c groups levels f o (outer d k h) = absurd (cc)
@@ -193,17 +191,6 @@ pub returns_in : (rules : List Rule) (rule : Rule) (text taken after : List ℕ)
 returns_in rules rule text taken after d h =
     has_piece_return text taken after (fits_longest d).cut (rw h refl)
 
--- the rest of a text that isn't at its end
-pub some_left : (text : List ℕ) → IsUtf8 text → (length text == 0) ≡ false → chars text ≡ [] → ⊥
-some_left text u some none =
-    let same : text ≡ [] = sym (encodes-chars text u) ∙ ap encode_utf8_all none in
-    false≢true (rw same at (sym some))
-
-pub nothing_left : (text : List ℕ) → (length text == 0) ≡ true → chars text ≡ []
-nothing_left [] e = chars-nil
-nothing_left (x ∷ text) e =
-    absurd (grind arith)
-
 pub ends_in_other : (mode : Mode) → EndsInOther (rules_of mode)
 unfolding all_rules
 ends_in_other Plain = refl
@@ -231,7 +218,7 @@ so_far_start begin mode number text nest n o t = record {
   reached = rw o tt;
   all = [];
   cut = stop;
-  holds = rw (o, t) (last {n = 256} {f = no_trees} (omega arith) no_items);
+  holds = rw (o, t) (last {n = most_levels} {f = no_trees} (omega arith) no_items);
 }
 
 pub none_left : (groups : List (Delimiter × ℕ)) (n : ℕ) → n ≡ 0 → n ≡ length groups → groups ≡ []

@@ -19,7 +19,8 @@ use Rattle.tok_lexical.specs.declared.delimiter.Delimiter.TheVariants.{Bracket}
 use Rattle.tok_leaves.specs.Leaves.{Leaf, ident, punct, literal}
 use Rattle.tok_core.specs.Forest.{leaf, group, Forest, no_trees, tree, concat}
 use Rattle.tok_core.specs.Lexical.Items.{Item, leaf_item, opening, closing, Flat, no_items}
-use Rattle.tok_core.specs.Lexical.Items.{leaf_first, group_first, depth, Opens, inside, within}
+use Rattle.tok_core.specs.Lexical.Items.{leaf_first, group_first, depth, most_levels, Opens, inside}
+use Rattle.tok_core.specs.Lexical.Items.{within}
 use Rattle.tok_core.specs.Building.{add_forest, add_leaf, opened, Closes}
 use Rattle.tok_core.specs.Private.Built.{State, Holds, last, outer, Reached, Grows}
 use Rattle.tok_core.proofs.Lexical.Flat.{flat_joined, depth_joined}
@@ -105,16 +106,18 @@ holds_bound (outer d k h) = let b = holds_bound h in omega arith
 
 module _ (at : ℕ) (old new : State) where
   grows_forest : (g : Forest) (more : List Item) →
-      ((n : ℕ) → n ≤ 256 → length old.groups ≤ n → depth g + length old.groups ≤ 256) →
+      ((n : ℕ) → n ≤ most_levels → length old.groups ≤ n →
+      depth g + length old.groups ≤ most_levels) →
       Flat old.source g more → new.source ≡ old.source → new.groups ≡ old.groups →
       new.levels ≡ add_forest g old.levels → Grows at old new more
   grows_forest g more few flat s o t = record {
     same_source = s;
     reached = λ r. rw o r;
-    holds = λ all h. rw (o, t) (holds_more g more (few 256 (omega arith) (holds_bound h)) flat h);
+    holds = λ all h. rw (o, t)
+        (holds_more g more (few most_levels (omega arith) (holds_bound h)) flat h);
   }
 
-  pub grows_opened : (delimiter : Delimiter) → (length old.groups ≡ 256 → ⊥) →
+  pub grows_opened : (delimiter : Delimiter) → (length old.groups ≡ most_levels → ⊥) →
       new.source ≡ old.source → new.groups ≡ old.groups ++ (delimiter, at) ∷ [] →
       new.levels ≡ opened old.levels → Grows at old new (opening delimiter at ∷ [])
   grows_opened delimiter few s o t = record {
@@ -195,7 +198,7 @@ doc_depth span true text = omega arith
 doc_depth span false text = omega arith
 
 pub grows_doc : (at : ℕ) (old new : State) (end : ℕ) (inner : Bool) (text : List ℕ)
-    (span : Span) → (length old.groups ≡ 256 → ⊥) → span ≡ source old.source at end →
+    (span : Span) → (length old.groups ≡ most_levels → ⊥) → span ≡ source old.source at end →
     new.source ≡ old.source → new.groups ≡ old.groups →
     new.levels ≡ add_forest (doc_forest span inner text) old.levels →
     Grows at old new (doc_items old.source at end inner text)

@@ -3,7 +3,7 @@ use Rattle.std.proofs.Common.{◌≡◌, ◌∙◌, ◌+◌, ◌<◌, length, �
 use Rattle.std.proofs.Common.{sym, ap, arith, reverse}
 use Rattle.std.specs.Prelude.{None, Bool, true, false}
 use Rattle.std.proofs.lemmas.List.{append-nil}
-use Rattle.tok_core.specs.Lexical.Items.{Item, IsForest, Opens, inside}
+use Rattle.tok_core.specs.Lexical.Items.{Item, IsForest, most_levels, Opens, inside}
 use Rattle.tok_lexical.specs.Errors.{error_kind}
 use Rattle.tok_core.specs.Lexical.Meaning.{items, doc_items, opens_group}
 use Rattle.tok_lexical.specs.Widths.{bytes}
@@ -46,7 +46,7 @@ same_items mode number at d e = let w = decides_unique d e in cc
 doc_opens : (number start end : ℕ) (inner : Bool) (text : List ℕ)
     (levels last : List (Delimiter × ℕ)) (more : List Item) →
     Run (reverse levels) (doc_items number start end inner text ++ more) last →
-    length levels < 256
+    length levels < most_levels
 doc_opens number start end true text levels last more run = first_opens levels last Bracket start
     _ (leaf_passed (leaf_passed run))
 doc_opens number start end false text levels last more run = first_opens levels last Bracket
@@ -54,7 +54,8 @@ doc_opens number start end false text levels last more run = first_opens levels 
 
 group_opens : (rule : Rule) (mode : Mode) (number at : ℕ) (taken after : List ℕ)
     (levels last : List (Delimiter × ℕ)) (more : List Item) → opens_group rule taken ≡ true →
-    Run (reverse levels) (items number rule mode at taken after ++ more) last → length levels < 256
+    Run (reverse levels) (items number rule mode at taken after ++ more) last →
+    length levels < most_levels
 group_opens (Opening delimiter) mode number at taken after levels last more is run =
     first_opens levels last delimiter at more run
 group_opens LineComment mode number at taken after levels last more is run =
@@ -92,8 +93,8 @@ no_piece {mode = mode} {levels = levels} {at = at} number others more
 
 no_further : {mode : Mode} {levels others : List (Delimiter × ℕ)} {number at end byte : ℕ}
     {why : LexErrorKind} {rest after : List ℕ} {some more : List Item} →
-    RejectsAt mode levels at rest why byte → Opens number 256 levels some →
-    Cut mode number at rest more end after → Opens number 256 others (some ++ more) →
+    RejectsAt mode levels at rest why byte → Opens number most_levels levels some →
+    Cut mode number at rest more end after → Opens number most_levels others (some ++ more) →
     (more ≡ []) × (rest ≡ after) × (at ≡ end)
 no_further f o stop p = (refl, refl, refl)
 no_further {others = others} {number = number} f o (piece {more = more} d m c) p =
@@ -150,8 +151,8 @@ one_cut {all = all} {others = others} c d = elim (cuts c d) [
 same_place : {mode : Mode} {number at b c end : ℕ} {n m : LexErrorKind} {rest after : List ℕ}
     {levels others : List (Delimiter × ℕ)} {some all more : List Item}
     → RejectsAt mode levels at rest n b → RejectsAt mode others end after m c →
-    Opens number 256 levels some → Opens number 256 others all → all ≡ some ++ more →
-    Cut mode number at rest more end after → (n ≡ m) × (b ≡ c)
+    Opens number most_levels levels some → Opens number most_levels others all →
+    all ≡ some ++ more → Cut mode number at rest more end after → (n ≡ m) × (b ≡ c)
 same_place {some = some} f g o p same k =
     let none = no_further f o k (rw same at p) in
     let here = append-nil some in
@@ -162,7 +163,7 @@ same_place {some = some} f g o p same k =
 abbrev IsRefusedAs : ℕ → Mode → ℕ → List ℕ → LexErrorKind → ℕ → Type 0
 IsRefusedAs begin mode number text why byte = (all : List Item) × (end : ℕ) × (rest : List ℕ)
     × (levels : List (Delimiter × ℕ))
-    × Cut mode number begin text all end rest × Opens number 256 levels all
+    × Cut mode number begin text all end rest × Opens number most_levels levels all
     × RejectsAt mode levels end rest why byte
 
 pub one_way : (begin : ℕ) (mode : Mode) (number : ℕ) (text : List ℕ) (n m : LexErrorKind)
@@ -176,8 +177,8 @@ one_way begin mode number text n m b c (some, end, rest, levels, k, o, f)
     ]
 
 pub not_both : {mode : Mode} {begin number end byte : ℕ} {text : List ℕ} {some : List Item}
-    {why : LexErrorKind} → IsForest number 256 some → Cut mode number begin text some end [] →
-    IsRefusedAs begin mode number text why byte → ⊥
+    {why : LexErrorKind} → IsForest number most_levels some →
+    Cut mode number begin text some end [] → IsRefusedAs begin mode number text why byte → ⊥
 not_both {some = some} f c (all, to, after, others, k, p, g) = elim (cuts c k) [
   | inl (more, same, j) ↦
       let none = cut_nil j in

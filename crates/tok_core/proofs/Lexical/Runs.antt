@@ -6,7 +6,7 @@ use Rattle.std.proofs.lemmas.List.{append-nil, length-reverse, reverse-append, r
 use Rattle.tok_leaves.specs.Leaves.{Leaf}
 use Rattle.tok_core.specs.Forest.{Forest}
 use Rattle.tok_core.specs.Lexical.Items.{Item, leaf_item, opening, closing, Flat, no_items}
-use Rattle.tok_core.specs.Lexical.Items.{leaf_first, group_first, depth, Opens, inside, within}
+use Rattle.tok_core.specs.Lexical.Items.{leaf_first, group_first, depth, most_levels, Opens, inside, within}
 use Rattle.tok_core.specs.Lexical.Items.{IsOpenBy}
 use Rattle.tok_lexical.specs.declared.delimiter.Delimiter.{Delimiter}
 
@@ -17,7 +17,7 @@ Levels = List (Delimiter × ℕ)
 -- one item: a leaf changes nothing, an opening adds a group, and a closing ends the innermost one
 pub data Step : Levels → Item → Levels → Type 0 where
   stays : {levels : Levels} {l : Leaf} → Step levels (leaf_item l) levels
-  opens : {levels : Levels} {delimiter : Delimiter} {start : ℕ} → length levels < 256 →
+  opens : {levels : Levels} {delimiter : Delimiter} {start : ℕ} → length levels < most_levels →
       Step levels (opening delimiter start) ((delimiter, start) ∷ levels)
   closes : {levels : Levels} {delimiter closer : Delimiter} {start end : ℕ} →
       delimiter ≡ closer → Step ((delimiter, start) ∷ levels) (closing closer end) levels
@@ -46,7 +46,7 @@ run_after ends s = s
 run_after (goes x r) (goes y s) = run_after r (rw (step_unique y x) at s)
 
 forest_runs : {number : ℕ} {f : Forest} {items : List Item} (levels : Levels) →
-    length levels + depth f ≤ 256 → Flat number f items → Run levels items levels
+    length levels + depth f ≤ most_levels → Flat number f items → Run levels items levels
 forest_runs levels l no_items = ends
 forest_runs levels l (leaf_first k) = goes stays (forest_runs levels l k)
 forest_runs levels l (group_first {inside = inner} {f = f} delimiter start end k m) =
@@ -60,7 +60,8 @@ onto [] levels = levels
 onto (p ∷ ps) levels = onto ps (p ∷ levels)
 
 opens_runs : {number n : ℕ} {items : List Item} {inner : Levels} (levels : Levels) →
-    length levels + n ≤ 256 → Opens number n inner items → Run levels items (onto inner levels)
+    length levels + n ≤ most_levels → Opens number n inner items →
+    Run levels items (onto inner levels)
 unfolding onto
 opens_runs levels l (inside (f, d, k)) = forest_runs levels (omega arith) k
 opens_runs levels l (within {delimiter = delimiter} {start = start} before items (f, d, k) o) =
@@ -78,8 +79,8 @@ onto_is (p ∷ levels) outer =
     )
 
 -- the groups left open, innermost first
-left_open : {number : ℕ} {levels : Levels} {items : List Item} → Opens number 256 levels items →
-    Run [] items (reverse levels)
+left_open : {number : ℕ} {levels : Levels} {items : List Item} →
+    Opens number most_levels levels items → Run [] items (reverse levels)
 left_open {levels = levels} o =
     rw (onto_is levels [], append-nil) at (opens_runs [] (omega arith) o)
 
@@ -88,12 +89,12 @@ nothing_left ends = refl
 
 -- the items of one front, and of a longer one
 pub after_front : {number : ℕ} {levels others : Levels} {items more : List Item} →
-    Opens number 256 levels items → Opens number 256 others (items ++ more) →
+    Opens number most_levels levels items → Opens number most_levels others (items ++ more) →
     Run (reverse levels) more (reverse others)
 after_front o p = run_after (left_open o) (left_open p)
 
 pub one_left_open : {number : ℕ} {levels others : Levels} {items : List Item} →
-    Opens number 256 levels items → Opens number 256 others items → levels ≡ others
+    Opens number most_levels levels items → Opens number most_levels others items → levels ≡ others
 one_left_open {levels = levels} {others = others} {items = items} o p =
     let same : reverse levels ≡ reverse others =
     nothing_left (after_front {others = others} o (rw (append-nil items) p)) in
@@ -119,11 +120,11 @@ pub leaf_passed : {levels last : Levels} {l : Leaf} {items : List Item} →
 leaf_passed (goes stays r) = r
 
 opens_here : (inner last : Levels) (delimiter : Delimiter) (start : ℕ) (items : List Item) →
-    Run inner (opening delimiter start ∷ items) last → length inner < 256
+    Run inner (opening delimiter start ∷ items) last → length inner < most_levels
 opens_here inner last delimiter start items (goes (opens l) r) = l
 
 pub first_opens : (levels last : Levels) (delimiter : Delimiter) (start : ℕ)
     (items : List Item) → Run (reverse levels) (opening delimiter start ∷ items) last →
-    length levels < 256
+    length levels < most_levels
 first_opens levels last delimiter start items r =
     rw (← (length-reverse levels)) (opens_here (reverse levels) last delimiter start items r)

@@ -27,6 +27,10 @@ depth no_trees = 0
 depth (tree (leaf l) f) = depth f
 depth (tree (group delimiter inside span) f) = max (suc (depth inside)) (depth f)
 
+-- the most groups that may lie within one another
+abbrev pub most_levels : ℕ
+most_levels = 256
+
 -- the items of a forest with at most this many levels
 abbrev pub IsForest : ℕ → ℕ → List Item → Type 0
 IsForest number n items = (f : Forest) × (depth f ≤ n) × Flat number f items

@@ -1,6 +1,7 @@
 -- What a piece means that a rule took at a byte, with a text after it: an error, or its items.
 use Rattle.std.specs.Prelude.{ℕ, ◌+◌, ◌-◌, List, [], ◌∷◌, ◌++◌, Bool, true, false, map, codes}
 use Rattle.std.specs.Prelude.{encode_utf8_all, if◌then◌else◌}
+use Rattle.tok_lexical.specs.Ascii.{apostrophe}
 use Rattle.tok_lexical.specs.Pieces.{after_first, up_to}
 use Rattle.tok_lexical.specs.Comments.{is_line_doc, is_block_doc}
 use Rattle.tok_lexical.specs.Docs.{is_inner_doc, line_doc_text, block_doc_text}
@@ -93,13 +94,13 @@ an_identifier number at piece after = ident_item number at (at + bytes piece) pi
 -- an apostrophe, and an identifier directly after it
 abbrev pub a_lifetime : ℕ → Meaning
 a_lifetime number at piece after =
-    punct_item number at 39 true
+    punct_item number at apostrophe true
     ∷ ident_item number (at + 1) (at + bytes piece) (after_first piece) ∷ []
 
 -- an apostrophe of marked text
 abbrev pub an_apostrophe : ℕ → Meaning
 an_apostrophe number at piece after =
-    punct_item number at 39 (makes_joint_apostrophe after) ∷ []
+    punct_item number at apostrophe (makes_joint_apostrophe after) ∷ []
 
 -- what makes a punct joint: in marked text, marks are looked through
 abbrev pub is_joint : Mode → List ℕ → Bool

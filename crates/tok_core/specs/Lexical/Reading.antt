@@ -2,7 +2,7 @@
 use Rattle.std.specs.Prelude.{◌≡◌, ℕ, ◌+◌, ◌≤◌, List, [], ◌∷◌, ◌++◌, length, Some, None, true}
 use Rattle.tok_lexical.specs.Fits.{IsFirstFit}
 use Rattle.tok_core.specs.Forest.{Forest}
-use Rattle.tok_core.specs.Lexical.Items.{Item, Flat, depth, Opens, IsOpenBy}
+use Rattle.tok_core.specs.Lexical.Items.{Item, Flat, depth, most_levels, Opens, IsOpenBy}
 use Rattle.tok_lexical.specs.Errors.{error_kind}
 use Rattle.tok_core.specs.Lexical.Meaning.{items, opens_group}
 use Rattle.tok_lexical.specs.Widths.{width}
@@ -30,7 +30,7 @@ pub data Cut (mode : Mode) (number : ℕ) : ℕ → List ℕ → List Item → �
 -- most 256 levels, and the whole text is cut into pieces that mean its items.
 abbrev pub ReadsFrom : ℕ → Mode → ℕ → List ℕ → Forest → Type 0
 ReadsFrom begin mode number text f =
-    (depth f ≤ 256)
+    (depth f ≤ most_levels)
     × ((all : List Item) × Flat number f all × ((end : ℕ) × Cut mode number begin text all end []))
 
 -- the whole text reads as this forest, from its byte 0 on
@@ -54,7 +54,7 @@ pub data RejectsAt (mode : Mode) (levels : List (Delimiter × ℕ)) (at : ℕ)
   too_deep : {rule : Rule} (taken after : List ℕ) →
       IsFirstFit rest (rules_of mode) rule taken after →
       error_kind rule mode at taken after ≡ None → opens_group rule taken ≡ true →
-      length levels ≡ 256 →
+      length levels ≡ most_levels →
       RejectsAt mode levels at rest DeepGroup at
 
 -- A front of the text is cut, with these groups open, and the rest is rejected there with this
@@ -62,7 +62,7 @@ pub data RejectsAt (mode : Mode) (levels : List (Delimiter × ℕ)) (at : ℕ)
 abbrev pub IsRefusedFrom : ℕ → Mode → ℕ → List ℕ → LexError → Type 0
 IsRefusedFrom begin mode number text error = (error.source ≡ number)
     × ((all : List Item) × (end : ℕ) × (rest : List ℕ) × (levels : List (Delimiter × ℕ))
-    × Cut mode number begin text all end rest × Opens number 256 levels all
+    × Cut mode number begin text all end rest × Opens number most_levels levels all
     × RejectsAt mode levels end rest error.kind error.at)
 
 -- the whole text, read from its byte 0 on, is rejected with this error

@@ -3,7 +3,7 @@ use Rattle.std.specs.Prelude.{◌≡◌, ℕ, suc, ◌+◌, ◌-◌, ◌≤◌, 
 use Rattle.std.specs.Prelude.{Some, None, true, slice_index_or}
 use Rattle.tok_core.specs.Building.{Levels}
 use Rattle.tok_core.specs.Forest.{Forest}
-use Rattle.tok_core.specs.Lexical.Items.{Item, opening, Flat, depth, IsOpenBy}
+use Rattle.tok_core.specs.Lexical.Items.{Item, opening, Flat, depth, most_levels, IsOpenBy}
 use Rattle.tok_lexical.specs.Errors.{error_kind}
 use Rattle.tok_core.specs.Lexical.Reading.{Cut}
 use Rattle.tok_core.specs.Lexical.Meaning.{opens_group}
@@ -53,7 +53,7 @@ pub data Holds (number : ℕ) :
 
 -- these are the items of all trees so far, which have at most 256 levels
 abbrev pub HoldsAll : ℕ → State → List Item → Type 0
-HoldsAll number s all = Holds number 256 s.groups s.levels.outer s.levels.inner all
+HoldsAll number s all = Holds number most_levels s.groups s.levels.outer s.levels.inner all
 
 -- the open groups begin at this byte or before it
 abbrev pub Reached : List (Delimiter × ℕ) → ℕ → Type 0
@@ -75,11 +75,11 @@ pub data Halts (levels : List (Delimiter × ℕ)) (rule : Rule) (mode : Mode) (a
   unfit : (delimiter : Delimiter) → rule ≡ Closing delimiter → (IsOpenBy levels delimiter → ⊥) →
       Halts levels rule mode at piece after UnexpectedClosing
   deep : error_kind rule mode at piece after ≡ None → opens_group rule piece ≡ true →
-      length levels ≡ 256 → Halts levels rule mode at piece after DeepGroup
+      length levels ≡ most_levels → Halts levels rule mode at piece after DeepGroup
 
 -- this is the error of an opening: 256 groups are open already
 abbrev pub IsTooDeep : State → LexErrorKind → Type 0
-IsTooDeep s why = (why ≡ DeepGroup) × (length s.groups ≡ 256)
+IsTooDeep s why = (why ≡ DeepGroup) × (length s.groups ≡ most_levels)
 
 -- this is the error of a closing: the innermost open group, if any, has another delimiter
 abbrev pub IsUnfit : State → Delimiter → LexErrorKind → Type 0

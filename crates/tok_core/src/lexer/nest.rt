@@ -5,6 +5,7 @@ ghost use Rattle.tok_core.specs.Private.Built.{state, Grows, Reached, IsPaired, 
 ghost use Rattle.tok_core.specs.Private.Halted.{OnHalted};
 ghost use Rattle.tok_core.specs.Private.Taken.{HaltsAt, Taken};
 ghost use Rattle.tok_core.specs.Lexical.Items.{opening, closing};
+ghost use Rattle.tok_lexical.specs.Ascii.{apostrophe};
 ghost use Rattle.tok_lexical.specs.Contents.{has_return};
 ghost use Rattle.tok_lexical.specs.Errors.{error_kind};
 ghost use Rattle.tok_core.specs.Lexical.Meaning.{items, ident_item, is_joint, literal_item, punct_item, pointed_items, doc_items};
@@ -152,7 +153,7 @@ impl<B: Build + Drop> Nest<B> {
         requires order { at + 1 ≤ end }
         ensures { OnOk result
             (Grows at (state B.levels self.old) (state B.levels self.new)
-            (punct_item self.old.source at 39 true
+            (punct_item self.old.source at apostrophe true
             ∷ ident_item self.old.source (at + 1) end (chars name.now) ∷ [])) }
     {
         self.punct(at, '\'', true)?;

@@ -41,8 +41,8 @@ pub fn source_span(start: usize, end: usize) -> Option<Span>
 
 // Returns the delimiter of this number.
 pub fn delimiter_of(number: u16) -> Option<Delimiter>
-    ensures { MatchOption result ((d : Delimiter) → spec.delimiter_number d ≡ number → ⊥)
-        (λ d. spec.delimiter_number d ≡ number) }
+    ensures { MatchOption result ((d : Delimiter) → spec.delimiter_code d ≡ number → ⊥)
+        (λ d. spec.delimiter_code d ≡ number) }
 {
     match number {
         0 => Some(Delimiter::Parenthesis),

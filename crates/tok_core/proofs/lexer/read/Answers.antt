@@ -3,7 +3,8 @@ use Rattle.tok_core.specs.Private.Built.{state}
 use Rattle.tok_core.proofs.Lexical.Blanks.{shorter}
 use Rattle.tok_core.proofs.Lexical.Cuts.{so_far_start, so_far_taken, so_far_blank}
 use Rattle.tok_core.proofs.Lexical.Cuts.{reads_all, refused_unclosed, nest_is_paired, returns_left}
-use Rattle.tok_core.proofs.Lexical.Cuts.{none_left, fault_at, nothing_left, some_left}
+use Rattle.tok_core.proofs.Lexical.Cuts.{none_left, fault_at}
+use Rattle.tok_lexical.proofs.Texts.{nothing_left, some_left}
 use Rattle.tok_core.proofs.lexer.read.Goals as goal
 
 pub loop-rest-init : goal.loop-rest-init

@@ -1,7 +1,7 @@
 use Rattle.std.proofs.Common.{◌≡◌, refl, rules, true}
 use Rattle.std.specs.Str.{chars}
 use Rattle.tok_leaves.proofs.Literals.{accepts}
-use Rattle.tok_core.proofs.Lexical.Cuts.{some_left}
+use Rattle.tok_lexical.proofs.Texts.{some_left}
 use Rattle.tok_entries.proofs.Words.{no_rule, whole_fit, same_rule, nothing_behind, refused_rule}
 use Rattle.tok_entries.proofs.texts.rule_of.Goals as goal
 use Rattle.tok_entries.proofs.texts.rule_of.Goals.{else-is_empty-via-then-is_empty+else-is_none, else-is_empty-via-else-is_empty}
