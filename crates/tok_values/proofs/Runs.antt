@@ -80,10 +80,6 @@ module _ (wide : Bool) (written : List ℕ → List ℕ)
   run_pushed skips =
       (so_far.0 ++ front, run_more wide text rest after so_far.0 front so_far.1 skips, more_written)
 
-pub run_appended : (old new now characters front : List ℕ) → new ≡ old ++ characters →
-    now ≡ new ++ front → now ≡ old ++ (characters ++ front)
-run_appended old new now characters front e h = cc (append_assoc old characters front)
-
 -- the bytes of a run of ASCII are its characters
 pub run_bytes : (front : List ℕ) → list_all (is_plain true) front ≡ true →
     encode_utf8_all front ≡ front

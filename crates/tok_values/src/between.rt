@@ -97,7 +97,8 @@ fn bytes_by(alloc: Global, text: &str) -> Result<Option<Vec<u8>>, AllocError>
     }
 }
 
-// Returns the bytes between the two quotes of a C string.
+// Returns the bytes between the two quotes of a C string. `bytes_by` differs in the units that it
+// reads: one function for both would choose between them at each unit.
 fn c_bytes_by(alloc: Global, text: &str) -> Result<Option<Vec<u8>>, AllocError>
     ensures others { begins_with quote (chars text.now) ≡ false → result ≡ Ok None }
     ensures value { IfOk result (λ answer. MatchOption answer

@@ -182,6 +182,8 @@ fn is_number_suffix(text: &str, radix: u32) -> bool
     is_identifier(text)
 }
 
+// tok_lexical's function of this name decodes a character, since its callers have done so already:
+// with this body, raw strings and `0x` took more instructions there.
 pub(crate) fn starts_digit(text: &str) -> bool
     ensures { result ≡ starts_digit (chars text.now) }
 {

@@ -1,9 +1,8 @@
-use Rattle.std.proofs.Common.{◌++◌, [], sym}
+use Rattle.std.proofs.Common.{◌++◌, [], append_assoc, sym}
 use Rattle.std.specs.Str.{chars}
 use Rattle.std.proofs.lemmas.List.{append-nil}
 use Rattle.tok_values.specs.CStrings.{c_unit}
 use Rattle.tok_values.specs.Strings.{nothing}
-use Rattle.tok_values.proofs.Runs.{run_appended}
 use Rattle.tok_values.proofs.Units.{more_by}
 use Rattle.tok_values.proofs.strings.push_c_bytes.Goals as goal
 
@@ -21,6 +20,6 @@ loop-after-preserved c =
       (
         i.0 ++ found.0,
         more_by c_unit _ _ _ i.0 found.0 i.1 found.1,
-        run_appended _ _ _ i.0 found.0 i.2 found.2,
+        cc (i.2, found.2, append_assoc c.args.to.now.items i.0 found.0),
       ),
     )
