@@ -117,7 +117,8 @@ fn write_text<W: Write>(f: &mut Formatter<W>, text: &str) -> fmt::Result
     f.write_str("\"")
 }
 
-// Writes a character, or the escape that stands for it.
+// Writes a character, or the escape that stands for it. `Literal::string` appends the same to a
+// `String`, whose errors are those of memory.
 fn write_escaped<W: Write>(f: &mut Formatter<W>, c: char) -> fmt::Result
     ensures { WritesOnOk W.write_str_gives f.old result (escaped c) f.new }
 {
