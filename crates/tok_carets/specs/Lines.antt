@@ -6,6 +6,7 @@ use Rattle.std.specs.Prelude.{get_or, length, take}
 use Rattle.std.specs.List.{flat_map, list_all, repeat}
 use Rattle.std.specs.Char.{len_utf8}
 use Rattle.std.specs.Str.{chars, IsCharBoundary}
+use Rattle.tok_lexical.specs.Ascii.{carriage_return, line_feed, space, tab}
 use Rattle.tok_lexical.specs.Comments.{is_not_line_feed}
 use Rattle.tok_carets.specs.declared.line.LineColumn.{LineColumn}
 use Rattle.memchr.specs.Find.{Nowhere, Passes, is_byte}
@@ -15,17 +16,17 @@ use Rattle.unicode_width.specs.Width.{char_width}
 abbrev pub IsLastLine : (text line : List ℕ) → Type 0
 IsLastLine text line =
     (list_all is_not_line_feed line ≡ true)
-    × ((text ≡ line) ⊎ ((front : List ℕ) × (text ≡ front ++ 10 ∷ line)))
+    × ((text ≡ line) ⊎ ((front : List ℕ) × (text ≡ front ++ line_feed ∷ line)))
 
 -- the first line of a text: no line feed is in it, and one is after it, or nothing
 abbrev pub IsFirstLine : (text line : List ℕ) → Type 0
 IsFirstLine text line =
     (list_all is_not_line_feed line ≡ true)
-    × ((text ≡ line) ⊎ ((rest : List ℕ) × (text ≡ line ++ 10 ∷ rest)))
+    × ((text ≡ line) ⊎ ((rest : List ℕ) × (text ≡ line ++ line_feed ∷ rest)))
 
 -- how many line feeds a text has: a list of characters, or of bytes
 abbrev pub line_feeds : List ℕ → ℕ
-line_feeds text = count_by (is_byte 10) text
+line_feeds text = count_by (is_byte line_feed) text
 
 -- the number of the line in which a text ends, from 1
 abbrev pub line_number : List ℕ → ℕ
@@ -34,7 +35,7 @@ line_number text = 1 + line_feeds text
 -- a line without the carriage return of its end
 abbrev pub without_return : List ℕ → List ℕ
 without_return [] = []
-without_return (c ∷ []) = if c == 13 then [] else c ∷ []
+without_return (c ∷ []) = if c == carriage_return then [] else c ∷ []
 without_return (c ∷ (d ∷ line)) = c ∷ without_return (d ∷ line)
 
 -- the characters that begin in the first bytes
@@ -44,11 +45,11 @@ within bytes (c ∷ text) = if bytes == 0 then [] else c ∷ within (bytes - len
 
 -- a tab takes four columns, and a control character none
 abbrev pub columns : ℕ → ℕ
-columns c = if c == 9 then 4 else unwrap_or (char_width false c) 0
+columns c = if c == tab then 4 else unwrap_or (char_width false c) 0
 
 -- the text that shows a character
 abbrev pub shown_character : ℕ → List ℕ
-shown_character c = if c == 9 then 32 ∷ 32 ∷ 32 ∷ 32 ∷ [] else encode_utf8 c
+shown_character c = if c == tab then space ∷ space ∷ space ∷ space ∷ [] else encode_utf8 c
 
 -- this mark in each column of a text
 abbrev pub marks : (mark : ℕ) → List ℕ → List ℕ
@@ -62,14 +63,15 @@ IsLineColumn before place =
 
 -- a line begins at this byte: it is the first byte, or the one after a line feed
 abbrev pub BeginsLine : (text : List ℕ) → (at : ℕ) → Type 0
-BeginsLine text at = (at ≡ 0) ⊎ ((feed : ℕ) × (at ≡ feed + 1) × Passes (is_byte 10) text feed)
+BeginsLine text at =
+    (at ≡ 0) ⊎ ((feed : ℕ) × (at ≡ feed + 1) × Passes (is_byte line_feed) text feed)
 
 -- the line of the byte `at` begins at `start`: a line begins there, and no line feed is between
 -- the two
 pub record IsLineStart (text : List ℕ) (at start : ℕ) : Type 0 where
   pub low : start ≤ at
   pub begins : BeginsLine text start
-  pub unbroken : Nowhere (Passes (is_byte 10) text) start at
+  pub unbroken : Nowhere (Passes (is_byte line_feed) text) start at
 
 -- the place before a byte of a text, at which a character begins or the text ends
 abbrev pub IsKnown : (text : List ℕ) → (at : ℕ) → LineColumn → Type 0

@@ -4,6 +4,7 @@ use Rattle.std.specs.Prelude.{codes, length}
 use Rattle.std.specs.Fmt.{decimal}
 use Rattle.std.specs.List.{flat_map, repeat}
 use Rattle.std.specs.Str.{chars, IsCharBoundary}
+use Rattle.tok_lexical.specs.Ascii.{space}
 use Rattle.tok_leaves.specs.Spans.{range}
 use Rattle.tok_leaves.specs.declared.span.Span.{Span}
 use Rattle.tok_core.specs.Lexical.Errors.{Explains, error_span, error_words}
@@ -25,7 +26,7 @@ carets (c ∷ text) = c ∷ text
 
 -- spaces as wide as the number of the line
 abbrev pub gutter : (line : ℕ) → List ℕ
-gutter line = repeat (length (decimal line)) (32 ∷ [])
+gutter line = repeat (length (decimal line)) (space ∷ [])
 
 -- the words, and the name of the source
 abbrev pub heading : (level words gutter name : List ℕ) → List ℕ
@@ -48,7 +49,7 @@ drawn level words name line head tail marked =
     heading level words (gutter line) name
     ++ (place line (length head + 1) (gutter line)
     ++ (row line (flat_map shown_character head) (flat_map shown_character tail) (gutter line)
-    ++ (marks 32 head ++ (carets (marks 94 marked) ++ codes "\n"))))
+    ++ (marks space head ++ (carets (marks 94 marked) ++ codes "\n"))))
 
 -- the words and the line between these two parts of a text, with carets under so many bytes after
 abbrev pub IsPlaced : (level words name before after : List ℕ) → (bytes : ℕ) → List ℕ → Type 0

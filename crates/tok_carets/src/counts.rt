@@ -1,5 +1,6 @@
 //! A function that counts the line feeds in a byte slice, many bytes at a time.
 ghost use Rattle.std.specs.Prelude.{◌≡◌, ◌+◌, ◌*◌, ◌≤◌, count_by, length, take};
+ghost use Rattle.tok_lexical.specs.Ascii.{line_feed};
 ghost use Rattle.memchr.specs.Find.{is_byte};
 
 use std::simd::prelude::*;
@@ -15,7 +16,7 @@ const FEW: usize = 16;
 
 /// Returns the number of line feeds in `bytes`.
 pub fn line_feeds(bytes: &[u8]) -> usize
-    ensures { result ≡ count_by (is_byte 10) bytes.now }
+    ensures { result ≡ count_by (is_byte line_feed) bytes.now }
 {
     let mut count = 0;
     let mut at = 0;
@@ -42,8 +43,8 @@ pub fn line_feeds(bytes: &[u8]) -> usize
 fn in_steps(bytes: &[u8], from: usize, steps: usize) -> usize
     requires within { from + 64 * steps ≤ length bytes.now }
     requires few { steps ≤ 255 }
-    ensures { count_by (is_byte 10) (take from bytes.now) + result
-        ≡ count_by (is_byte 10) (take (from + 64 * steps) bytes.now) }
+    ensures { count_by (is_byte line_feed) (take from bytes.now) + result
+        ≡ count_by (is_byte line_feed) (take (from + 64 * steps) bytes.now) }
 {
     let mut counts = u8x64::splat(0);
     let mut done = 0;
@@ -60,8 +61,8 @@ fn in_steps(bytes: &[u8], from: usize, steps: usize) -> usize
 // Returns how many line feeds are in 16 bytes, from a place on.
 fn in_few(bytes: &[u8], at: usize) -> usize
     requires { at + 16 ≤ length bytes.now }
-    ensures { count_by (is_byte 10) (take at bytes.now) + result
-        ≡ count_by (is_byte 10) (take (at + 16) bytes.now) }
+    ensures { count_by (is_byte line_feed) (take at bytes.now) + result
+        ≡ count_by (is_byte line_feed) (take (at + 16) bytes.now) }
 {
     let lanes = u8x16::from_slice(&bytes[at..]);
     let feeds = lanes.simd_eq(u8x16::splat(b'\n'));

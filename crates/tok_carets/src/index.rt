@@ -1,6 +1,7 @@
 //! An index of the positions at which the lines of a text begin.
 ghost use Rattle.std.specs.Prelude.{◌≡◌, ◌≤◌, ◌+◌, IfOk, IfSome, MatchOption, length, take};
 ghost use Rattle.std.specs.Str.{IsCharBoundary, IsUtf8, chars};
+ghost use Rattle.tok_lexical.specs.Ascii.{line_feed};
 ghost use Rattle.memchr.specs.Find.{is_byte, places};
 ghost use Rattle.tok_carets.specs.Lines.{ArePlaces, IsKnown, IsLastLine, IsLineColumn, IsLineStart, IsPlaceAt, IsStretch, line_feeds, line_number};
 
@@ -25,7 +26,7 @@ pub struct LineIndex<'a> {
     text: &'a str,
     // The byte of each line feed, in order.
     feeds: Vec<usize>,
-    ghost are: { feeds.items ≡ places (is_byte 10) text.now },
+    ghost are: { feeds.items ≡ places (is_byte line_feed) text.now },
 }
 
 impl<'a> LineIndex<'a> {

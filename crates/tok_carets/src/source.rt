@@ -2,6 +2,7 @@
 ghost use Rattle.std.specs.Prelude.{◌≡◌, ℕ, ◌++◌, ◌∷◌, [], IfOk, OnOk, codes, decimal, length, string_bytes, take};
 ghost use Rattle.std.specs.Option.{ForSome};
 ghost use Rattle.std.specs.List.{flat_map, repeat};
+ghost use Rattle.tok_lexical.specs.Ascii.{space};
 ghost use Rattle.tok_leaves.specs.Spans.{range};
 ghost use Rattle.std.specs.Str.{chars};
 ghost use Rattle.tok_buffer.specs.Messages.{each_message};
@@ -220,7 +221,7 @@ fn push_heading(
 ) -> Result<(), AllocError>
     ensures { OnOk result (string_bytes to.new
         ≡ string_bytes to.old
-        ++ heading level.now words.now (repeat gutter (32 ∷ [])) name.now) }
+        ++ heading level.now words.now (repeat gutter (space ∷ [])) name.now) }
 {
     push_words(to, level, words)?;
     push_times(to, ' ', gutter)?;
