@@ -7,6 +7,7 @@ use Rattle.tok_leaves.specs.declared.span.Span.{Span}
 use Rattle.tok_core.specs.Filled.{has_trees}
 use Rattle.tok_core.specs.Forest.{Forest}
 use Rattle.tok_leaves.specs.Spans.{range}
+use Rattle.tok_lexical.specs.Ascii.{line_feed}
 use Rattle.tok_lexical.specs.Delimiters.{opening}
 use Rattle.tok_core.specs.Text.{text}
 use Rattle.tok_buffer.specs.declared.error.Message.{Message}
@@ -20,7 +21,7 @@ use Rattle.syn_replay.specs.declared.report.Misuse.TheVariants.{OutOfScope}
 
 -- a line, with its line feed
 abbrev pub as_line : List ℕ → List ℕ
-as_line line = line ++ 10 ∷ []
+as_line line = line ++ line_feed ∷ []
 
 -- a part after others: a space parts it from them, and an empty part adds none
 abbrev pub spaced : List ℕ → List ℕ
