@@ -1,41 +1,58 @@
 -- Lines and words, one cut off after the other.
 use Rattle.std.proofs.Common.{◌≡◌, ℕ, ◌+◌, ◌-◌, ◌<◌, true, false, eqb, List, [], ◌∷◌, ◌++◌, length}
 use Rattle.std.proofs.Common.{take, drop, Option, Some, None, IfSome, Bor, refl, ap, ◌∙◌}
-use Rattle.std.proofs.Common.{append_assoc, arith, length-append}
+use Rattle.std.proofs.Common.{append_assoc, arith, length-append, subst}
 use Rattle.std.proofs.Math.Seq.{take-append_seam}
 use Rattle.std.proofs.lemmas.List.{append-nil}
 use Rattle.std.proofs.lemmas.List.Concat.{flat_map-append}
 use Rattle.std.proofs.lemmas.List.Elements.{All-append, All-cons}
-use Rattle.std.proofs.lemmas.Bool.{false_from_ne_true}
+use Rattle.std.proofs.lemmas.Bool.{eqb-true, false_from_ne_true}
 use Rattle.std.proofs.lemmas.List.Sums.{fails_before_first, position_or_len_is}
 use Rattle.std.proofs.lemmas.List.Splits.{slice_split_first, slice_split_none, slice_split_at}
 use Rattle.std.proofs.lemmas.List.Splits.{length-slice_split}
+use Rattle.std.proofs.lemmas.Str.{IsCharBoundary-after_ascii}
 use Rattle.memchr.specs.Find.{IsFirstByte, is_byte}
 use Rattle.std.specs.List.{All, slice_split, position_or_len}
-use Rattle.std.specs.Str.{IsUtf8}
+use Rattle.std.specs.Str.{IsCharBoundary, IsUtf8}
+use Rattle.tok_lexical.specs.Ascii.{line_feed}
 use Rattle.replay_program.specs.Input.{lines, is_cut, text_of, texts_in, parts_of, lines_left}
 use Rattle.syn_replay.specs.ReportText.{as_line}
 
+-- the bytes of a text have their first such byte where the text has it
+first_in : (c : ℕ) (bytes text : List ℕ) (k : Option ℕ) → bytes ≡ text
+    → IsFirstByte (is_byte c) bytes k → IsFirstByte (is_byte c) text k
+first_in c bytes text k same first = subst (λ z. IsFirstByte (is_byte c) z k) same first
+
+-- a character begins after the first such byte, which is ASCII
+pub after_first : (c : ℕ) (bytes text : List ℕ) (k : ℕ) → c < 128 → IsUtf8 text → bytes ≡ text
+    → IsFirstByte (is_byte c) bytes (Some k) → IsCharBoundary text (k + 1)
+after_first c bytes text k low u same first =
+    let (none, found) = first_in c bytes text (Some k) same first in
+    IsCharBoundary-after_ascii text k u none.high (omega (arith, low, eqb-true _ _ found))
+
 -- the first such byte cuts off the first part
-pub cut_at : (c : ℕ) (bs front back : List ℕ) (k : ℕ) → IsFirstByte (is_byte c) bs (Some k)
-    → front ≡ take k bs → back ≡ drop (k + 1) bs
-    → slice_split (λ b. eqb b c) bs ≡ front ∷ slice_split (λ b. eqb b c) back
-cut_at c bs front back k (none, found) f b =
-    let at : position_or_len (λ b. eqb b c) bs ≡ k =
-    position_or_len_is (λ b. eqb b c) bs k 0 (omega (arith, none.high))
+pub cut_at : (c : ℕ) (bytes text front back : List ℕ) (k : ℕ) → bytes ≡ text
+    → IsFirstByte (is_byte c) bytes (Some k) → front ≡ take k text → back ≡ drop (k + 1) text
+    → slice_split (λ b. eqb b c) text ≡ front ∷ slice_split (λ b. eqb b c) back
+cut_at c bytes text front back k same first f b =
+    let (none, found) = first_in c bytes text (Some k) same first in
+    let at : position_or_len (λ b. eqb b c) text ≡ k =
+    position_or_len_is (λ b. eqb b c) text k 0 (omega (arith, none.high))
     (λ j before. false_from_ne_true _ (none.before j (omega arith) before)) (λ _. found) in
-    slice_split_first (λ b. eqb b c) bs 0 (omega (arith, at, none.high))
+    slice_split_first (λ b. eqb b c) text 0 (omega (arith, at, none.high))
     ∙ rw (at, f, b)
 
-pub cut_nowhere : (c : ℕ) (bs : List ℕ) → IsFirstByte (is_byte c) bs None
-    → slice_split (λ b. eqb b c) bs ≡ bs ∷ []
-cut_nowhere c bs none =
-    let past : position_or_len (λ b. eqb b c) bs ≡ length bs =
-    position_or_len_is (λ b. eqb b c) bs (length bs) 0 (omega arith)
+-- a text without such a byte is one part
+pub cut_nowhere : (c : ℕ) (bytes text : List ℕ) → bytes ≡ text
+    → IsFirstByte (is_byte c) bytes None → slice_split (λ b. eqb b c) text ≡ text ∷ []
+cut_nowhere c bytes text same first =
+    let none = first_in c bytes text None same first in
+    let past : position_or_len (λ b. eqb b c) text ≡ length text =
+    position_or_len_is (λ b. eqb b c) text (length text) 0 (omega arith)
     (λ j before. false_from_ne_true _ (none j (omega arith) before))
     (λ inside. absurd (omega arith)) in
-    slice_split_none (λ b. eqb b c) bs
-    (λ k d inside. fails_before_first (λ b. eqb b c) bs k d (omega arith))
+    slice_split_none (λ b. eqb b c) text
+    (λ k d inside. fails_before_first (λ b. eqb b c) text k d (omega arith))
 
 -- the lines before what is left hold no cut
 pub record IsPast (input : List ℕ) (left : Option (Bor (List ℕ))) : Type 0 where
@@ -112,7 +129,12 @@ pub left_less : (line : List ℕ) (rest : Bor (List ℕ)) (others : Option (Bor 
     → IfSome others (λ b. rest.now ≡ as_line line ++ b.now) → left_len others < left_len (Some rest)
 left_less line rest None j = omega arith
 left_less line rest (Some b) j =
-    omega (arith, ap length j, length-append (as_line line) b.now, length-append line (10 ∷ []))
+    omega (
+      arith,
+      ap length j,
+      length-append (as_line line) b.now,
+      length-append line (line_feed ∷ []),
+    )
 
 long_parts : (text other commands : List (List ℕ)) (more : List (List (List ℕ))) → 0 < length more
     → texts_in (text ∷ (other ∷ (commands ∷ more))) ≡ None

@@ -7,6 +7,7 @@ use Rattle.std.specs.Str.{all_ascii_digits}
 use Rattle.std.specs.Str.Parse.{digits_value}
 use Rattle.tok_lexical.specs.declared.delimiter.Delimiter.{Delimiter}
 use Rattle.tok_lexical.specs.declared.delimiter.Delimiter.TheVariants as delimiters
+use Rattle.tok_lexical.specs.Ascii.{space}
 use Rattle.tok_lexical.specs.Delimiters.{opening}
 use Rattle.tok_types.specs.Texts.{keywords, number_in, punctuations}
 use Rattle.syn_replay.specs.Commands as commands
@@ -27,7 +28,7 @@ is_empty (x ∷ xs) = false
 
 -- the parts between spaces
 abbrev pub words : List ℕ → List (List ℕ)
-words line = filter (λ word. not (is_empty word)) (slice_split (λ b. b == 32) line)
+words line = filter (λ word. not (is_empty word)) (slice_split (λ b. b == space) line)
 
 -- one to nine ASCII digits
 abbrev pub is_number : List ℕ → Bool

@@ -4,11 +4,12 @@ use Rattle.std.specs.Prelude.{IfSome, MatchOption, option_map, codes}
 use Rattle.std.specs.List.{slice_split, flat_map}
 use Rattle.std.specs.Str.{IsUtf8}
 use denote.Ref.{Bor}
+use Rattle.tok_lexical.specs.Ascii.{line_feed}
 use Rattle.syn_replay.specs.ReportText.{as_line}
 
 -- the parts between line feeds
 abbrev pub lines : List ℕ → List (List ℕ)
-lines bytes = slice_split (λ b. b == 10) bytes
+lines bytes = slice_split (λ b. b == line_feed) bytes
 
 -- a line that ends a text
 abbrev pub is_cut : List ℕ → Bool

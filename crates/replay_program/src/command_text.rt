@@ -4,6 +4,7 @@ ghost use Rattle.std.specs.Option.{ForSome, option_map};
 ghost use Rattle.std.specs.Str.{IsUtf8};
 ghost use Rattle.std.specs.List.{slice_split};
 ghost use Rattle.memchr.specs.Find.{IsFirstByte, is_byte};
+ghost use Rattle.tok_lexical.specs.Ascii.{space};
 ghost use Rattle.syn_replay.specs.Commands as commands;
 ghost use Rattle.replay_program.specs.CommandText as spec;
 ghost use Rattle.replay_program.specs.Faults.{IsUnreadableLine, OnUnreadable};
@@ -331,9 +332,9 @@ fn first_word(line: &str) -> Option<(&str, &str)>
 #[inline(always)]
 fn split_at_space(text: &str) -> Option<(&str, &str)>
     ensures parts { MatchOption result
-        (slice_split (λ b. b == 32) text.now ≡ text.now ∷ [])
-        (λ p. slice_split (λ b. b == 32) text.now
-        ≡ p.0.now ∷ slice_split (λ b. b == 32) p.1.now) }
+        (slice_split (λ b. b == space) text.now ≡ text.now ∷ [])
+        (λ p. slice_split (λ b. b == space) text.now
+        ≡ p.0.now ∷ slice_split (λ b. b == space) p.1.now) }
     ensures less { IfSome result (λ p. length p.1.now < length text.now) }
     ensures utf8 { IfSome result (λ p. IsUtf8 p.0.now × IsUtf8 p.1.now) }
 {
@@ -346,7 +347,7 @@ fn split_at_space(text: &str) -> Option<(&str, &str)>
 // Returns the index of the first space. Most words are too short for a search by vectors.
 #[inline(always)]
 fn first_space(bytes: &[u8]) -> Option<usize>
-    ensures { IsFirstByte (is_byte 32) bytes.now result }
+    ensures { IsFirstByte (is_byte space) bytes.now result }
 {
     for i in 0..bytes.len() {
         if bytes[i] == b' ' {

@@ -1,4 +1,4 @@
-use Rattle.std.proofs.Common.{◌≡◌, List, ℕ, Option, Result, Ok, Err, Some, None, ap, sym, rules}
+use Rattle.std.proofs.Common.{◌≡◌, List, ℕ, Option, Result, Ok, Err, Some, None, ap, rules}
 use Rattle.std.proofs.Common.{◌∙◌}
 use Rattle.std.specs.Prelude.{map}
 use Rattle.syn_replay.specs.Commands.{command_of}
@@ -11,7 +11,7 @@ use Rattle.tok_lexical.specs.declared.rule.Mode.TheVariants.{Marked}
 use Rattle.tok_core.specs.declared.lexer.error.LexFault.{LexFault}
 use Rattle.tok_core.specs.declared.lexer.error.LexFault.TheVariants.{Refused, Memory}
 use Rattle.replay_program.specs.Faults.{OnUnreadable, fault_of}
-use Rattle.replay_program.specs.Input.{lines_left, parts_of, text_in}
+use Rattle.replay_program.specs.Input.{lines_left, text_in}
 use Rattle.replay_program.specs.CommandText.{unreadable_line}
 use Rattle.replay_program.specs.Comparison.{compared, reported}
 use Rattle.replay_program.specs.Program.{HasForests, HasParts, IsForest}
@@ -21,6 +21,7 @@ use Rattle.replay_program.specs.declared.fault.Fault.{Fault}
 use Rattle.replay_program.specs.declared.fault.Fault.TheVariants as faults
 use Rattle.replay_program.specs.declared.fault.Unreadable.TheVariants as why
 use Rattle.replay_program.proofs.outcome.Goals as goal
+use Rattle.replay_program.proofs.outcome.Goals.{In-Some, In-Some-other}
 
 module _ (bytes text : List ℕ) (other : Option (List ℕ)) (lines : List (List ℕ))
     (h : HasParts bytes text other lines) where
@@ -62,17 +63,24 @@ commands_refused bytes forest more lines h (faults.Unreadable w) (n, e, k) =
     rw e (forest, more, lines, h, k)
 commands_refused bytes forest more lines h faults.Memory k = tt
 
+-- what `parts` found are the parts of the input
+parts_found : (c : In-Some) → HasParts c.args.input.now c.in-Some.text.now
+    (text_in c.in-Some.other) (lines_left c.in-Some.lines)
+parts_found c =
+    let (same, utf8) = c.in-Ok.ensures.cases in (utf8, cc (same, c.in-Some.ensures.parts))
+
+-- with a second text
+both_found : (c : In-Some-other) → HasParts c.args.input.now c.in-Some.text.now
+    (Some c.in-Some-other.other.now) (lines_left c.in-Some.lines)
+both_found c =
+    let (same, utf8) = c.in-Ok.ensures.cases in
+    (utf8, cc (same, c.in-Some.ensures.parts, c.in-Some-other.is))
+
 pub returns-in_err-buffer : goal.returns-in_err-buffer
 returns-in_err-buffer c =
-    let bytes = c.args.input.now in
-    let text = c.in-Some.text.now in
-    let lines = lines_left c.in-Some.lines in
-    let (same, utf8) = c.in-Ok.ensures.cases in
-    let parts : HasParts bytes text (text_in c.in-Some.other) lines =
-    (utf8, cc (same, c.in-Some.ensures.parts)) in
     let fault = c.in_err-buffer.field-0.0 in
-    refuse _ bytes (fault_of fault) c.from_residual.result c.from_residual.ensures.1
-    (text_refused bytes text (text_in c.in-Some.other) lines parts fault
+    refuse _ c.args.input.now (fault_of fault) c.from_residual.result c.from_residual.ensures.1
+    (text_refused _ _ _ _ (parts_found (goal.at.returns-in_err-buffer c).In-Some) fault
     c.in_err-buffer.ensures.follows.refuses)
 
 pub returns-in_default-other : goal.returns-in_default-other
@@ -104,48 +112,32 @@ returns-in_default-other c =
 
 pub returns-in_err-stream : goal.returns-in_err-stream
 returns-in_err-stream c =
-    let bytes = c.args.input.now in
-    let text = c.in-Some.text.now in
-    let lines = lines_left c.in-Some.lines in
-    let (same, utf8) = c.in-Ok.ensures.cases in
-    let other = c.in-Some-other.other.now in
-    let parts : HasParts bytes text (Some other) lines =
-    (utf8, cc (same, c.in-Some.ensures.parts, c.in-Some-other.is)) in
     let fault = c.in_err-stream.field-0.0 in
-    refuse _ bytes (fault_of fault) c.from_residual-in_err-stream.result
+    refuse _ c.args.input.now (fault_of fault) c.from_residual-in_err-stream.result
     c.from_residual-in_err-stream.ensures.1
-    (text_refused bytes text (Some other) lines parts fault c.in_err-stream.ensures.refuses)
+    (text_refused _ _ _ _ (parts_found (goal.at.returns-in_err-stream c).In-Some) fault
+    c.in_err-stream.ensures.refuses)
 
 pub returns-in_err-right : goal.returns-in_err-right
 returns-in_err-right c =
-    let bytes = c.args.input.now in
-    let text = c.in-Some.text.now in
-    let lines = lines_left c.in-Some.lines in
-    let (same, utf8) = c.in-Ok.ensures.cases in
-    let other = c.in-Some-other.other.now in
-    let parts : HasParts bytes text (Some other) lines =
-    (utf8, cc (same, c.in-Some.ensures.parts, c.in-Some-other.is)) in
+    let parts = both_found (goal.at.returns-in_err-right c).In-Some-other in
     let fault = c.in_err-right.field-0.0 in
-    refuse _ bytes fault c.from_residual-in_err-right.result c.from_residual-in_err-right.ensures.1
-    (other_refused bytes text (Some other) lines parts c.in_ok-stream.stream
-    c.in_ok-stream.ensures.reads fault
+    refuse _ c.args.input.now fault c.from_residual-in_err-right.result
+    c.from_residual-in_err-right.ensures.1
+    (other_refused c.args.input.now c.in-Some.text.now (Some c.in-Some-other.other.now)
+    (lines_left c.in-Some.lines) parts c.in_ok-stream.stream c.in_ok-stream.ensures.reads fault
     c.in_err-right.ensures)
 
 pub returns-in_err-commands-2 : goal.returns-in_err-commands-2
 returns-in_err-commands-2 c =
-    let bytes = c.args.input.now in
-    let text = c.in-Some.text.now in
-    let lines = lines_left c.in-Some.lines in
-    let (same, utf8) = c.in-Ok.ensures.cases in
-    let other = c.in-Some-other.other.now in
-    let parts : HasParts bytes text (Some other) lines =
-    (utf8, cc (same, c.in-Some.ensures.parts, c.in-Some-other.is)) in
+    let parts = both_found (goal.at.returns-in_err-commands-2 c).In-Some-other in
     let fault = c.in_err-commands-2.field-0.0 in
-    refuse _ bytes fault c.from_residual-in_err-commands-2.result
+    refuse _ c.args.input.now fault c.from_residual-in_err-commands-2.result
     c.from_residual-in_err-commands-2.ensures.1
-    (commands_refused bytes c.in_ok-stream.stream (Some c.in_ok-right.right) lines (
-      text,
-      Some other,
+    (commands_refused c.args.input.now c.in_ok-stream.stream (Some c.in_ok-right.right)
+    (lines_left c.in-Some.lines) (
+      c.in-Some.text.now,
+      Some c.in-Some-other.other.now,
       parts,
       c.in_ok-stream.ensures.reads,
       c.in_ok-right.ensures,
@@ -153,27 +145,25 @@ returns-in_err-commands-2 c =
 
 pub returns : goal.returns
 returns c =
-    let bytes = c.args.input.now in
-    let text = c.in-Some.text.now in
-    let lines = lines_left c.in-Some.lines in
-    let (same, utf8) = c.in-Ok.ensures.cases in
-    let other = c.in-Some-other.other.now in
-    let parts : HasParts bytes text (Some other) lines = (
-      utf8,
-      ap parts_of (sym same) ∙ c.in-Some.ensures.parts
-          ∙ ap (λ o. Some (text, text_in o, lines)) c.in-Some-other.is,
-    ) in
+    let parts = both_found (goal.at.returns c).In-Some-other in
     let left = c.in_ok-stream.stream in
     let right = c.in_ok-right.right in
     let same_commands =
     ap (map command_of) c.deref-2.ensures.value ∙ c.in_ok-commands-2.ensures.1 in
-    told_so _ _ bytes c.told_both.result c.told_both.ensures (λ p (x, compares, printed, status). (
+    told_so _ _ c.args.input.now c.told_both.result c.told_both.ensures
+    (λ p (x, compares, printed, status). (
       compared x,
       (
         left,
         Some right,
-        lines,
-        (text, Some other, parts, c.in_ok-stream.ensures.reads, c.in_ok-right.ensures),
+        lines_left c.in-Some.lines,
+        (
+          c.in-Some.text.now,
+          Some c.in-Some-other.other.now,
+          parts,
+          c.in_ok-stream.ensures.reads,
+          c.in_ok-right.ensures,
+        ),
         c.in_ok-commands-2.ensures.0,
         rw same_commands at compares,
       ),
