@@ -1,14 +1,21 @@
-use Rattle.std.proofs.Common.{rules, ◌≡◌, ◌+◌, ◌-◌, ◌∷◌, ℕ, length, refl, subst, sym}
-use Rattle.tok_core.specs.Forest.{group, leaf}
+use Rattle.std.proofs.Common.{rules, ◌≡◌, ◌+◌, ◌-◌, ◌∷◌, ℕ, List, length, refl}
+use Rattle.tok_core.specs.Building.{Levels, add_forest}
+use Rattle.tok_core.specs.Forest.{Tree, group, leaf, no_trees}
+use Rattle.tok_core.specs.Forest.{tree as one_tree}
+use Rattle.tok_pruned.specs.Pruned.{pruned}
 use Rattle.tok_entries.specs.Blames.{BlamesFrom, TakesTree, first_entry}
 use Rattle.tok_entries.specs.Private.Parts.{RejectsLeaf}
+use Rattle.tok_entries.specs.Private.Steps.{GoesOn}
 use Rattle.tok_entries.specs.Refusals.{OnRejected}
+use Rattle.tok_entries.specs.declared.entry.Entry.{Entry}
 use Rattle.tok_entries.specs.declared.intake.fault.EntryFault.{EntryFault}
 use Rattle.tok_entries.specs.declared.intake.fault.Refusal.TheVariants.{Shape, Depth}
 use Rattle.tok_entries.proofs.Blamed.{blamed_end, blamed_inside, blamed_leaf, blamed_on, not_opened}
 use Rattle.tok_entries.proofs.Groups.{group_taken, no_leaf_opens, parts_open}
 use Rattle.tok_entries.proofs.Steps.{goes_on, leaf_taken, goes_first}
+use Rattle.tok_entries.proofs.intake.+read.Given.{Over}
 use Rattle.tok_entries.proofs.intake.+read.Goals as goal
+use Rattle.tok_entries.proofs.intake.+read.Goals.{read_level-In-Some}
 
 pub read_group-returns-in_default-clause-blames : goal.read_group-returns-in_default-clause-blames
 read_group-returns-in_default-clause-blames g t c =
@@ -65,73 +72,70 @@ read_level-loop-first-init g t c = (
       (g.B.Build.levels c.args.builder.now),
 )
 
+-- a tree that is taken where the loop stands goes to the trees of the level
+goes_past : (g : Over) (t : ℕ) (c : read_level-In-Some g t) (tree : Tree) (later : List Entry)
+    (behind : List ℕ) (new : Levels)
+    → TakesTree (c.args.at + (length c.args.texts.now - length c.loop-first.rest.now)) c.args.levels
+    (c.in-Some.first.now ∷ c.in-Some.after.now) c.loop-first.rest.now tree later behind
+    → new ≡ add_forest (pruned (one_tree tree no_trees)) (g.B.Build.levels c.loop-first.builder)
+    → GoesOn c.args.at c.args.levels c.args.entries.now c.args.texts.now later behind
+    (g.B.Build.levels c.args.builder.now) new
+goes_past g t c tree later behind new takes adds =
+    let front : c.loop-first.left.now ≡ c.in-Some.first.now ∷ c.in-Some.after.now = search rules in
+    goes_on c.args.at c.args.levels _ c.args.entries.now (c.in-Some.first.now ∷ c.in-Some.after.now)
+    later c.args.texts.now c.loop-first.rest.now behind _ _ new tree
+    (rw front at c.loop-first.invariant.1) refl takes adds
+
+-- what rejects the entries where the loop stands rejects those of the level
+level_blamed : (g : Over) (t : ℕ) (c : read_level-In-Some g t) (fault : EntryFault)
+    → OnRejected fault (BlamesFrom
+    (c.args.number + (length c.args.entries.now - length c.loop-first.left.now))
+    (c.args.at + (length c.args.texts.now - length c.loop-first.rest.now)) c.args.levels
+    (c.in-Some.first.now ∷ c.in-Some.after.now) c.loop-first.rest.now)
+    → OnRejected fault (BlamesFrom c.args.number c.args.at c.args.levels c.args.entries.now
+    c.args.texts.now)
+level_blamed g t c fault blamed =
+    let front : c.loop-first.left.now ≡ c.in-Some.first.now ∷ c.in-Some.after.now = search rules in
+    blamed_on fault c.args.number c.args.at c.args.levels _ _ c.args.entries.now
+    (c.in-Some.first.now ∷ c.in-Some.after.now) c.args.texts.now c.loop-first.rest.now _ _
+    (rw front at c.loop-first.invariant.1) (rw front refl) refl blamed
+
 pub read_level-loop-first-preserved-then-first-eq-OPENING :
     goal.read_level-loop-first-preserved-then-first-eq-OPENING
 read_level-loop-first-preserved-then-first-eq-OPENING g t c =
-    let (u, goes) = c.loop-first.invariant in
-    let begin : ℕ = c.args.at + (length c.args.texts.now - length c.loop-first.rest.now) in
-    let old = g.B.Build.levels c.args.builder.now in
-    let mid = g.B.Build.levels c.loop-first.builder in
-    let new = g.B.Build.levels c.read_group.new.builder in
-    let left = c.loop-first.left.now in
-    let (tree, takes, adds) = c.in_ok-later.ensures.reads in
-    let front : left ≡ c.in-Some.first.now ∷ c.in-Some.after.now = search rules in
-    let taken : TakesTree begin c.args.levels left c.loop-first.rest.now tree
-    c.in_ok-later.later.now c.in_ok-later.behind.now =
-    subst (λ es. TakesTree begin c.args.levels es c.loop-first.rest.now tree
-    c.in_ok-later.later.now c.in_ok-later.behind.now) (sym front) takes in (
+    let (tree, takes, adds) = c.in_ok-later.ensures.reads in (
       c.in_ok-later.ensures.utf8,
-      goes_on c.args.at c.args.levels begin c.args.entries.now left c.in_ok-later.later.now
-          c.args.texts.now c.loop-first.rest.now c.in_ok-later.behind.now old mid new tree goes refl
-          taken adds,
+      goes_past g t
+          (goal.at.read_level-loop-first-preserved-then-first-eq-OPENING g t c).In-Some tree
+          _ _ _ takes adds,
     )
 
 pub read_level-returns-in_err-later-clause-blames :
     goal.read_level-returns-in_err-later-clause-blames
 read_level-returns-in_err-later-clause-blames g t c =
-    let (u, goes) = c.loop-first.invariant in
-    let here : ℕ = c.args.number + (length c.args.entries.now - length c.loop-first.left.now) in
-    let begin : ℕ = c.args.at + (length c.args.texts.now - length c.loop-first.rest.now) in
-    let left = c.loop-first.left.now in
-    let rest = c.loop-first.rest.now in
-    let first = c.in-Some.first.now in
-    let after = c.in-Some.after.now in
-    let front : left ≡ first ∷ after = search rules in
-    let lifted : (fault : EntryFault)
-    → OnRejected fault (BlamesFrom here begin c.args.levels (first ∷ after) rest)
-    → OnRejected fault (BlamesFrom c.args.number c.args.at c.args.levels c.args.entries.now
-    c.args.texts.now) =
-    λ fault blamed.
-    blamed_on fault c.args.number c.args.at c.args.levels here begin c.args.entries.now left
-    c.args.texts.now rest (g.B.Build.levels c.args.builder.now)
-    (g.B.Build.levels c.loop-first.builder) goes refl refl
-    (subst (λ es. OnRejected fault (BlamesFrom here begin c.args.levels es rest)) (sym front)
-    blamed) in
+    let lifted =
+    level_blamed g t
+    (goal.at.read_level-returns-in_err-later-clause-blames g t c).In-Some in
     search (rules, lifted)
 
 pub read_level-returns-in_err-behind-clause-blames :
     goal.read_level-returns-in_err-behind-clause-blames
 read_level-returns-in_err-behind-clause-blames g t c =
-    let (u, goes) = c.loop-first.invariant in
     let here : ℕ = c.args.number + (length c.args.entries.now - length c.loop-first.left.now) in
     let begin : ℕ = c.args.at + (length c.args.texts.now - length c.loop-first.rest.now) in
-    let left = c.loop-first.left.now in
     let rest = c.loop-first.rest.now in
     let first = c.in-Some.first.now in
     let after = c.in-Some.after.now in
-    let front : left ≡ first ∷ after = search rules in
     let other : first.kind ≡ 3 → ⊥ = search rules in
     let lifted : (fault : EntryFault)
     → OnRejected fault (λ why named. (named ≡ here) × RejectsLeaf begin first rest why)
     → OnRejected fault (BlamesFrom c.args.number c.args.at c.args.levels c.args.entries.now
     c.args.texts.now) =
     λ fault blamed.
-    blamed_on fault c.args.number c.args.at c.args.levels here begin c.args.entries.now left
-    c.args.texts.now rest (g.B.Build.levels c.args.builder.now)
-    (g.B.Build.levels c.loop-first.builder) goes refl refl
-    (subst (λ es. OnRejected fault (BlamesFrom here begin c.args.levels es rest)) (sym front)
+    level_blamed g t
+    (goal.at.read_level-returns-in_err-behind-clause-blames g t c).In-Some fault
     (blamed_leaf fault here begin c.args.levels first after rest
-    (not_opened begin first after rest other) blamed)) in
+    (not_opened begin first after rest other) blamed) in
     search (rules, lifted)
 
 pub read_level-returns-else-is_empty-clause-blames :
@@ -146,22 +150,8 @@ read_level-returns-else-is_empty-clause-blames g t c =
 
 pub read_level-loop-first-preserved : goal.read_level-loop-first-preserved
 read_level-loop-first-preserved g t c =
-    let (u, goes) = c.loop-first.invariant in
-    let begin : ℕ = c.args.at + (length c.args.texts.now - length c.loop-first.rest.now) in
-    let old = g.B.Build.levels c.args.builder.now in
-    let mid = g.B.Build.levels c.loop-first.builder in
-    let new = g.B.Build.levels c.read_leaf.new.builder in
-    let left = c.loop-first.left.now in
-    let (l, hl, he, hb, adds) = c.in_ok-behind.ensures.reads in
-    let front : left ≡ c.in-Some.first.now ∷ c.in-Some.after.now = search rules in
-    let taken : TakesTree begin c.args.levels left c.loop-first.rest.now (leaf l)
-    c.in-Some.after.now c.in_ok-behind.behind.now =
-    subst (λ es. TakesTree begin c.args.levels es c.loop-first.rest.now (leaf l)
-    c.in-Some.after.now c.in_ok-behind.behind.now) (sym front)
-    (leaf_taken begin c.args.levels c.in-Some.first.now c.in-Some.after.now
-    c.loop-first.rest.now c.in_ok-behind.behind.now l hl he hb) in (
+    let (l, hl, he, hb, adds) = c.in_ok-behind.ensures.reads in (
       c.in_ok-behind.ensures.utf8,
-      goes_on c.args.at c.args.levels begin c.args.entries.now left c.in-Some.after.now
-          c.args.texts.now c.loop-first.rest.now c.in_ok-behind.behind.now old mid new (leaf l) goes
-          refl taken adds,
+      goes_past g t (goal.at.read_level-loop-first-preserved g t c).In-Some (leaf l)
+          _ _ _ (leaf_taken _ _ _ _ _ _ l hl he hb) adds,
     )
