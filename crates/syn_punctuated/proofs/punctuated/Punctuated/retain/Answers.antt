@@ -1,10 +1,12 @@
-use Rattle.std.proofs.Common.{rules, arith, refl, subst, sym, map, List, ◌++◌, None, Some, Bool}
+use Rattle.std.proofs.Common.{◌≡◌, rules, arith, refl, subst, sym, map, List, ◌++◌, None, Some, Bool}
 use Rattle.std.proofs.Common.{true, false}
 use Rattle.std.specs.Fn.{CalledAtMut}
 use Rattle.syn_punctuated.proofs.RetainSteps.{each_front, each_last, retains_trailing, retains_last}
 use Rattle.syn_punctuated.proofs.RetainSteps.{retains_refused}
 use Rattle.syn_punctuated.specs.Private.Boxes.{boxed_values}
 use Rattle.syn_punctuated.specs.Retained.{AtEach, TakesAtMut}
+use Rattle.syn_punctuated.proofs.punctuated.Punctuated.retain.Given.{Over}
+use Rattle.syn_punctuated.proofs.punctuated.Punctuated.retain.Goals.{After-test}
 use Rattle.syn_punctuated.proofs.punctuated.Punctuated.retain.Goals as goal
 
 pub retain_pairs-requires : goal.retain_pairs-requires
@@ -24,15 +26,15 @@ test-requires g c =
     (each_last (CalledAtMut g.F.FnMut) (TakesAtMut g.F.FnMut) c.args.f before c.in-Some.last.value
     run c.retain_pairs.new.f each runs)
 
+-- the test is called on the last value, and returns this
+called : (g : Over) (c : After-test g) (b : Bool) → c.test.result ≡ b
+    → CalledAtMut g.F.FnMut c.retain_pairs.new.f c.in-Some.last.value b c.test.new.f
+    c.test.new.value
+called g c b is = rw (sym is, sym c.as_mut.ensures.value) c.test.ensures
+
 pub returns-in-Some-pop : goal.returns-in-Some-pop
 returns-in-Some-pop g c =
-    let step =
-    subst (λ (x : g.row.T.Denot).
-    CalledAtMut g.F.FnMut c.retain_pairs.new.f x false c.test.new.f c.test.new.value)
-    c.as_mut.ensures.value
-    (subst (λ (b : Bool).
-    CalledAtMut g.F.FnMut c.retain_pairs.new.f c.as_mut.result.now b c.test.new.f
-    c.test.new.value) c.if-not-test.true c.test.ensures) in
+    let step = called g (goal.at.returns-in-Some-pop g c).After-test false c.if-not-test.true in
     retains_refused _ _ c.args.self.now (record {
       inner =
           c.pop.new.self;
@@ -43,13 +45,7 @@ returns-in-Some-pop g c =
 
 pub returns-then-not-test : goal.returns-then-not-test
 returns-then-not-test g c =
-    let step =
-    subst (λ (x : g.row.T.Denot).
-    CalledAtMut g.F.FnMut c.retain_pairs.new.f x false c.test.new.f c.test.new.value)
-    c.as_mut.ensures.value
-    (subst (λ (b : Bool).
-    CalledAtMut g.F.FnMut c.retain_pairs.new.f c.as_mut.result.now b c.test.new.f
-    c.test.new.value) c.if-not-test.true c.test.ensures) in
+    let step = called g (goal.at.returns-then-not-test g c).After-test false c.if-not-test.true in
     retains_refused _ _ c.args.self.now (record { inner = c.pop.new.self; last = None })
     c.in-Some.last c.in-Some.is c.retain_pairs.new.f c.retain_pairs.new.pairs.items
     c.retain_pairs.ensures c.test.new.f c.test.new.value step None c.in-None-pop.ensures.items
@@ -57,13 +53,7 @@ returns-then-not-test g c =
 
 pub returns-in-Some : goal.returns-in-Some
 returns-in-Some g c =
-    let step =
-    subst (λ (x : g.row.T.Denot).
-    CalledAtMut g.F.FnMut c.retain_pairs.new.f x true c.test.new.f c.test.new.value)
-    c.as_mut.ensures.value
-    (subst (λ (b : Bool).
-    CalledAtMut g.F.FnMut c.retain_pairs.new.f c.as_mut.result.now b c.test.new.f
-    c.test.new.value) c.if-not-test.false c.test.ensures) in
+    let step = called g (goal.at.returns-in-Some g c).After-test true c.if-not-test.false in
     let last = record c.in-Some.last { value = c.test.new.value } in
     retains_last _ _ c.args.self.now (record { inner = c.retain_pairs.new.pairs; last = Some last })
     c.in-Some.last c.in-Some.is c.retain_pairs.new.f c.retain_pairs.new.pairs.items
