@@ -75,6 +75,7 @@ fn code(text: &str) -> Option<(char, &str)>
 ///
 /// `text` begins after the backslash. If `wide` is `true`, the digits after `\x` may exceed 7F, and
 /// `\u` is not an escape. Returns `None` if the escape is invalid.
+#[inline(always)]
 pub fn escape(text: &str, wide: bool) -> Option<(char, &str)>
     ensures finds { FindsCharacter (escape wide (chars text.now)) result }
     ensures utf8 { IfSome result (λ r. IsUtf8 r.1.now) }

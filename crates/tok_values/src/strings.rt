@@ -39,6 +39,7 @@ fn ends_line(text: &str) -> bool
 }
 
 // Returns the character that a `\` and the text after it mean, if any, and the text after both.
+#[inline(always)]
 fn escaped(text: &str, wide: bool) -> Option<(Option<char>, &str)>
     ensures finds { FindsUnit (past_escape wide (chars text.now)) result }
     ensures utf8 { IfSome result (λ r. IsUtf8 r.1.now) }
@@ -53,6 +54,8 @@ fn escaped(text: &str, wide: bool) -> Option<(Option<char>, &str)>
 }
 
 // Returns the character that the front of a text in quotes means, if any, and the text after it.
+// Inlined with the escape: a text of escapes calls it for each, and a call returns through memory.
+#[inline(always)]
 fn unit(text: &str, wide: bool) -> Option<(Option<char>, &str)>
     ensures finds { FindsUnit (unit wide (chars text.now)) result }
     ensures utf8 { IfSome result (λ r. IsUtf8 r.1.now) }
