@@ -3,14 +3,10 @@ use Rattle.std.proofs.Common.{◌≡◌, ◌∙◌, ◌≤◌, ◌<◌, ◌^◌,
 use Rattle.std.proofs.Common.{append_assoc, arith, inl, inr, map, Bool, true, false, Ok, Err}
 use Rattle.std.specs.Prelude.{Result, MatchResult, ◌==◌, ◌||◌, codes, cond}
 use Rattle.std.specs.Fmt.{decimal}
-use Rattle.std.specs.List.{list_all}
 use Rattle.std.specs.Str.{IsUtf8, chars}
-use Rattle.std.proofs.lemmas.Bool.{and_from}
 use Rattle.std.proofs.lemmas.Str.{IsUtf8-append, chars-append, encodes-chars}
-use Rattle.unicode_ident.specs.Ident.{is_xid_continue}
-use Rattle.unicode_ident.proofs.IdentLemmas.{is_xid_continue-ascii, is_xid_start-ascii}
+use Rattle.unicode_ident.proofs.IdentLemmas.{is_xid_start-ascii}
 use Rattle.tok_lexical.specs.Fits.{IsFirstFit, here}
-use Rattle.tok_lexical.specs.Private.Fronts.{is_ascii_continue}
 use Rattle.tok_lexical.specs.Rules.{rules_of}
 use Rattle.tok_lexical.specs.Widths.{width}
 use Rattle.tok_lexical.specs.Words.{IsIdentifier, IsName, is_missing_raw}
@@ -18,9 +14,8 @@ use Rattle.tok_lexical.specs.declared.delimiter.Delimiter.TheVariants.{Brace, Br
 use Rattle.tok_lexical.specs.declared.rule.Mode.TheVariants.{Plain}
 use Rattle.tok_lexical.specs.declared.rule.Rule.TheVariants.{Closing, Opening}
 use Rattle.tok_lexical.specs.declared.start.Start.TheVariants as start
-use Rattle.tok_lexical.proofs.Digits.{head_passes, tail_passes}
 use Rattle.tok_lexical.proofs.First.{decides_begun}
-use Rattle.tok_lexical.proofs.Identifiers.{ascii_continues_low}
+use Rattle.tok_lexical.proofs.Identifiers.{all_continue}
 use Rattle.tok_lexical.proofs.Longest.{takes_one}
 use Rattle.tok_leaves.specs.Leaves.{ident, literal}
 use Rattle.tok_leaves.specs.Quoting.{in_quotes}
@@ -98,25 +93,16 @@ spanless_settings [] = refl
 spanless_settings (s ∷ ss) = grind (arith, spanless_settings ss)
 
 -- the two words of truth values
-continues : (cs : List ℕ) → list_all is_ascii_continue cs ≡ true
-    → list_all is_xid_continue cs ≡ true
-continues [] h = refl
-continues (c ∷ cs) h =
-    let one = head_passes is_ascii_continue c cs h in
-    and_from (is_xid_continue c) (list_all is_xid_continue cs)
-    (is_xid_continue-ascii c (ascii_continues_low c one) ∙ one)
-    (continues cs (tail_passes is_ascii_continue c cs h))
-
 true_word : IsIdentifier (codes "true")
 true_word = (
   ap (λ b. b || (116 == 95)) (is_xid_start-ascii 116 (omega arith)),
-  continues (codes "rue") refl,
+  all_continue (codes "rue") refl,
 )
 
 false_word : IsIdentifier (codes "false")
 false_word = (
   ap (λ b. b || (102 == 95)) (is_xid_start-ascii 102 (omega arith)),
-  continues (codes "alse") refl,
+  all_continue (codes "alse") refl,
 )
 
 -- a name by its bytes

@@ -5,7 +5,8 @@ use Rattle.tok_core.specs.Forest.{Tree}
 use Rattle.tok_leaves.specs.declared.span.Span.{Span}
 use Rattle.tok_buffer.specs.Descent.{descend}
 use Rattle.tok_buffer.specs.Place.{Place, front, pass}
-use Rattle.tok_buffer.specs.Reads.{any_tree, is_punct_of, place_after, read_if, read_punctuation}
+use Rattle.tok_buffer.specs.Reads.{is_punct_of, place_after, read_if, read_punctuation}
+use Rattle.tok_core.specs.Kinds.{any_tree}
 use Rattle.tok_buffer.specs.declared.error.Message.{Message}
 use Rattle.syn_parse.specs.Parses.{PunctuationParses, WordParses}
 use Rattle.syn_parse.specs.Reads.{TreesRead, ReadsAtOnce}

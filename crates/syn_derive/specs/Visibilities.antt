@@ -6,7 +6,7 @@ use Rattle.tok_core.specs.Filled.{has_trees}
 use Rattle.tok_core.specs.Forest.{Forest, no_trees}
 use Rattle.tok_core.specs.Laws.{followed_by, optional_trees}
 use Rattle.tok_buffer.specs.EachRead.{first_if}
-use Rattle.tok_buffer.specs.Reads.{is_ident}
+use Rattle.tok_core.specs.Kinds.{is_ident}
 use Rattle.syn_parse.specs.Inside.{sees_inside}
 use Rattle.syn_parse.specs.Optional.{take_optional}
 use Rattle.syn_parse.specs.Sequences.{take_both}

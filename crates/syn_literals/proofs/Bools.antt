@@ -1,21 +1,16 @@
 -- A truth value, where an identifier is read.
-use Rattle.std.proofs.Common.{◌≡◌, ◌∙◌, sym, ap, refl, arith, ℕ, Bool, true, false, cond}
-use Rattle.std.proofs.Common.{List, [], ◌∷◌, Some, None, Err, is_some, ◌||◌}
-use Rattle.std.proofs.Common.{zero, suc, ◌<◌}
-use Rattle.std.proofs.lemmas.Bool.{and_from, and_parts, false≢true, ltb-true}
+use Rattle.std.proofs.Common.{◌≡◌, ◌∙◌, sym, refl, arith, ℕ, Bool, true, false, cond}
+use Rattle.std.proofs.Common.{List, Some, None, Err, is_some}
+use Rattle.std.proofs.lemmas.Bool.{false≢true}
 use Rattle.std.proofs.lemmas.Slice.Eq.{bytes_eq-Decides}
-use Rattle.std.proofs.lemmas.Str.{chars-IsAscii}
-use Rattle.std.specs.Char.{is_ascii_alphabetic, is_ascii_alphanumeric}
-use Rattle.std.specs.List.{list_all}
-use Rattle.std.specs.Prelude.{OnErr, Result, bytes_eq, codes, nat_lt, slice_index, ◌==◌}
+use Rattle.std.specs.Prelude.{OnErr, Result, bytes_eq, codes}
 use Rattle.std.specs.Str.{chars}
-use Rattle.unicode_ident.specs.Ident.{is_xid_continue}
-use Rattle.unicode_ident.proofs.IdentLemmas.{is_xid_continue-ascii, is_xid_start-ascii}
 use Rattle.tok_lexical.specs.Words.{IsIdentifier}
 use Rattle.tok_core.specs.Forest.{Forest}
 use Rattle.tok_buffer.specs.Descent.{descend}
 use Rattle.tok_buffer.specs.Place.{Place}
-use Rattle.tok_buffer.specs.Reads.{is_ident, is_ident_of, read_if, read_keyword, read_word}
+use Rattle.tok_buffer.specs.Reads.{is_ident_of, read_if, read_keyword, read_word}
+use Rattle.tok_core.specs.Kinds.{is_ident}
 use Rattle.tok_buffer.specs.declared.error.Message.{Message}
 use Rattle.tok_values.specs.Strings.{bool_of}
 use Rattle.syn_parse.specs.Parses.{IsSpanOf, WordParses}
@@ -23,6 +18,7 @@ use Rattle.syn_parse.specs.Reads.{TreesRead, ReadsAtOnce}
 use Rattle.syn_parse.specs.State.{State}
 use Rattle.syn_parse.specs.declared.fault.Fault.{Fault}
 use Rattle.syn_literals.specs.Kinds.{bool_text, is_bool, read_bool, value_in}
+use Rattle.tok_types.proofs.Words.{word-chars}
 
 -- the text of a value
 module _ (text : List ℕ) where
@@ -74,31 +70,9 @@ module _ (s t : State) (v : Bool) (is : read_bool s.place ≡ Some v) where
   bool_never_fails f h = grind (arith, never, some, word-is)
 
 -- the texts are identifiers
-abbrev is_ascii : List ℕ → Bool
-is_ascii t = list_all (λ c. nat_lt c 128) t
-
-ascii_at : (t : List ℕ) → is_ascii t ≡ true → (i : ℕ) → slice_index t i < 128
-ascii_at [] h i = omega arith
-ascii_at (c ∷ t) h zero = ltb-true c 128 (and_parts (nat_lt c 128) (is_ascii t) h).0
-ascii_at (c ∷ t) h (suc i) = ascii_at t (and_parts (nat_lt c 128) (is_ascii t) h).1 i
-
-continues : (cs : List ℕ) → is_ascii cs ≡ true → list_all is_ascii_alphanumeric cs ≡ true
-    → list_all is_xid_continue cs ≡ true
-continues [] a h = refl
-continues (c ∷ cs) a h =
-    let ascii = and_parts (nat_lt c 128) (is_ascii cs) a in
-    let parts = and_parts (is_ascii_alphanumeric c) (list_all is_ascii_alphanumeric cs) h in
-    and_from (is_xid_continue c) (list_all is_xid_continue cs)
-    (is_xid_continue-ascii c (ltb-true c 128 ascii.0) ∙ ap (λ b. b || (c == 95)) parts.0)
-    (continues cs ascii.1 parts.1)
-
-named : (c : ℕ) (cs : List ℕ) → is_ascii (c ∷ cs) ≡ true → is_ascii_alphabetic c ≡ true
-    → list_all is_ascii_alphanumeric cs ≡ true → IsIdentifier (chars (c ∷ cs))
-named c cs a start rest =
-    grind (arith, and_parts, chars-IsAscii, ascii_at, is_xid_start-ascii, ltb-true, continues)
-
 pub bool_identifier : (v : Bool) → IsIdentifier (chars (bool_text v))
-bool_identifier v = grind (arith, named)
+bool_identifier true = word-chars (bool_text true) refl refl
+bool_identifier false = word-chars (bool_text false) refl refl
 
 -- what an error leaves as it was
 pub still : {T E : Type 0} (r : Result T E) (f : Forest) → OnErr r (f ≡ f)

@@ -8,7 +8,8 @@ use Rattle.tok_leaves.specs.declared.span.Span.{Span}
 use Rattle.tok_leaves.specs.Leaves.{literal}
 use Rattle.tok_core.specs.Forest.{leaf}
 use Rattle.tok_buffer.specs.Place.{Place}
-use Rattle.tok_buffer.specs.Reads.{is_literal, read_if, read_literal}
+use Rattle.tok_buffer.specs.Reads.{read_if, read_literal}
+use Rattle.tok_core.specs.Kinds.{is_literal}
 use Rattle.tok_buffer.specs.declared.error.Message.{Message}
 use Rattle.syn_parse.specs.Parses.{IsLiteral, LiteralParses}
 use Rattle.syn_parse.specs.Reads.{TreesRead, Reads}

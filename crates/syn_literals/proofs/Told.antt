@@ -19,11 +19,12 @@ use Rattle.syn_parse.specs.Tokens.{literal_in}
 use Rattle.syn_parse.specs.declared.fault.Fault.{Fault}
 use Rattle.syn_parse.proofs.Told.{here_told, read_told, told-at-once}
 use Rattle.syn_literals.specs.Kinds.{BoolParses, IsBool, KindParses, is_bool, is_float}
-use Rattle.syn_literals.specs.Kinds.{is_integer, is_literal_of, is_string, read_literal_of}
+use Rattle.syn_literals.specs.Kinds.{is_integer, is_literal_of, read_literal_of}
 use Rattle.syn_literals.specs.TakeLiterals.{bool_first, bool_in, float_first, integer_first}
 use Rattle.syn_literals.specs.TakeLiterals.{string_first, take_bool, take_float, take_integer}
 use Rattle.syn_literals.specs.TakeLiterals.{take_kind, take_string}
 use Rattle.syn_literals.specs.declared.boolean.LitBool.{LitBool}
+use Rattle.tok_values.specs.Suffixed.{begins_string}
 
 of_kind : (w : List ℕ → Bool) → Reading (read_literal_of w) (first_if (is_literal_of w))
 of_kind w = one (is_literal_of w) (λ d inside span. refl)
@@ -36,9 +37,9 @@ kind_told w words s r t h =
     (of_kind w) r h
 
 pub string_told : (s : State) (r : Result Literal Fault) (t : State)
-    → KindParses is_string (codes "expected string literal") s r t → Takes take_string s r t
+    → KindParses begins_string (codes "expected string literal") s r t → Takes take_string s r t
 unfolding take_string
-string_told s r t h = kind_told is_string (codes "expected string literal") s r t h
+string_told s r t h = kind_told begins_string (codes "expected string literal") s r t h
 
 pub integer_told : (s : State) (r : Result Literal Fault) (t : State)
     → KindParses is_integer (codes "expected integer literal") s r t → Takes take_integer s r t
@@ -63,10 +64,10 @@ bool_told s r t h =
     (refused_at s words) s t (here_told words s) (of_word is_bool) r h
 
 -- what peeks see
-pub string_seen : (p : Place) (b : Bool) → PeeksFor (read_literal_of is_string) p b
+pub string_seen : (p : Place) (b : Bool) → PeeksFor (read_literal_of begins_string) p b
     → b ≡ string_first (erased_ahead p)
 unfolding string_first
-string_seen p b h = h ∙ found_as _ _ _ (tells (of_kind is_string) p)
+string_seen p b h = h ∙ found_as _ _ _ (tells (of_kind begins_string) p)
 
 pub integer_seen : (p : Place) (b : Bool) → PeeksFor (read_literal_of is_integer) p b
     → b ≡ integer_first (erased_ahead p)

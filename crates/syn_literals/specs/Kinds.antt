@@ -1,10 +1,8 @@
 -- The kinds of literals, by their texts, and how a literal of one kind is read and parsed.
-use Rattle.std.specs.Prelude.{◌≡◌, ℕ, Bool, false, not, ◌||◌, ◌&&◌, if◌then◌else◌, is_some, codes}
+use Rattle.std.specs.Prelude.{◌≡◌, ℕ, Bool, false, not, ◌&&◌, if◌then◌else◌, is_some, codes}
 use Rattle.std.specs.Prelude.{List, [], ◌∷◌, Option, Some, None}
 use Rattle.std.specs.Str.{chars}
-use Rattle.tok_lexical.specs.Ascii.{lower_r, quote}
 use Rattle.tok_lexical.specs.Numbers.{starts_digit}
-use Rattle.tok_lexical.specs.Pieces.{begins_with}
 use Rattle.tok_leaves.specs.declared.literal.Literal.{Literal}
 use Rattle.tok_leaves.specs.Leaves.{ident, literal}
 use Rattle.tok_core.specs.Forest.{Tree, leaf}
@@ -17,10 +15,6 @@ use Rattle.syn_parse.specs.ErrorWords.{name_in, refused_at}
 use Rattle.syn_parse.specs.Parses.{IsLiteral}
 use Rattle.syn_parse.specs.Reads.{Call, Reads, ReadsAtOnce}
 use Rattle.syn_literals.specs.declared.boolean.LitBool.{LitBool}
-
--- A string literal, raw or not: of all literals these alone begin with a quote, or with `r`.
-abbrev pub is_string : List ℕ → Bool
-is_string text = begins_with quote text || begins_with lower_r text
 
 -- an integer literal, perhaps with a suffix
 abbrev pub is_integer : List ℕ → Bool

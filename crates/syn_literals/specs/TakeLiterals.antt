@@ -11,8 +11,9 @@ use Rattle.syn_parse.specs.Takes.{Taking, missing_next, take_by}
 use Rattle.syn_parse.specs.Takings.{Lightens, Lowers}
 use Rattle.syn_parse.specs.Tokens.{literal_in}
 use Rattle.syn_parse.specs.TreesAhead.{Ahead}
-use Rattle.syn_literals.specs.Kinds.{is_bool, is_float, is_integer, is_literal_of, is_string}
+use Rattle.syn_literals.specs.Kinds.{is_bool, is_float, is_integer, is_literal_of}
 use Rattle.syn_literals.specs.declared.boolean.LitBool.{LitBool}
+use Rattle.tok_values.specs.Suffixed.{begins_string}
 
 -- a literal of a kind, or else these words are missing
 abbrev pub take_kind : (List ℕ → Bool) → List ℕ → Taking Literal
@@ -24,9 +25,9 @@ bool_in (leaf (ident text span) ∷ ts) =
     record { value = bytes_eq text (codes "true"); span = span }
 bool_in ts = record { value = false; span = call_site }
 
--- a string literal, raw or not
+-- a string literal, raw or not: of all literals these alone begin with a quote, or with `r`
 unfoldable pub take_string : Taking Literal
-take_string = take_kind is_string (codes "expected string literal")
+take_string = take_kind begins_string (codes "expected string literal")
 
 -- an integer literal, perhaps with a suffix
 unfoldable pub take_integer : Taking Literal
@@ -44,7 +45,7 @@ take_bool =
 
 -- a string literal is first
 unfoldable pub string_first : Forest → Bool
-string_first f = is_some (first_if (is_literal_of is_string) f)
+string_first f = is_some (first_if (is_literal_of begins_string) f)
 
 -- an integer literal is first
 unfoldable pub integer_first : Forest → Bool

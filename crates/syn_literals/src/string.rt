@@ -4,9 +4,10 @@ ghost use Rattle.tok_core.specs.Forest.{leaf, no_trees, tree};
 ghost use Rattle.tok_leaves.specs.Leaves.{leaf_span, leaf_text, literal_of};
 ghost use Rattle.tok_types.specs.Looks.{PeeksFor, IsText};
 ghost use Rattle.syn_parse.specs.Takings.{lower, told};
-ghost use Rattle.syn_literals.specs.Kinds.{KindParses, is_string, read_literal_of};
+ghost use Rattle.syn_literals.specs.Kinds.{KindParses, read_literal_of};
 ghost use Rattle.syn_literals.specs.TakeLiterals.{lowers_string, string_first, take_string};
 ghost use Rattle.syn_literals.specs.TextValues.{text_value};
+ghost use Rattle.tok_values.specs.Suffixed.{begins_string};
 
 use crate::kind::{Kind, parse_kind, peek_kind};
 use crate::raw::raw_text;
@@ -45,7 +46,7 @@ impl Model for LitStr {
 }
 
 impl Kind for LitStr {
-    ghost accepts = { is_string };
+    ghost accepts = { begins_string };
 
     ghost words = { codes "expected string literal" };
 
@@ -64,7 +65,7 @@ impl LitStr {
     /// The literal may have any suffix. If `literal` is not a string literal, the call drops
     /// `literal` and returns `None`.
     pub fn from_literal(literal: Literal) -> Option<LitStr>
-        ensures { SomeIff result (is_string (leaf_text (literal_of literal)) ≡ true) literal }
+        ensures { SomeIff result (begins_string (leaf_text (literal_of literal)) ≡ true) literal }
     {
         if LitStr::accepts(&literal) {
             Some(LitStr { token: literal })
@@ -103,7 +104,7 @@ impl LitStr {
 }
 
 impl Token for LitStr {
-    ghost peeks = { PeeksFor (read_literal_of is_string) };
+    ghost peeks = { PeeksFor (read_literal_of begins_string) };
 
     ghost sees = { Some string_first };
 
@@ -119,7 +120,7 @@ impl Token for LitStr {
 }
 
 impl Parse for LitStr {
-    ghost parses = { KindParses is_string (codes "expected string literal") };
+    ghost parses = { KindParses begins_string (codes "expected string literal") };
 
     ghost takes = { told (λ s. s) take_string (lower lowers_string) };
 
@@ -130,7 +131,8 @@ impl Parse for LitStr {
 
 // Does what `LitStr::parse` does.
 fn parsed(input: ParseStream<'_, '_>) -> Result<LitStr>
-    ensures { KindParses is_string (codes "expected string literal") input.old result input.new }
+    ensures { KindParses begins_string (codes "expected string literal") input.old result
+        input.new }
 {
     let token = parse_kind::<LitStr>(input)?;
     Ok(LitStr { token })

@@ -18,12 +18,12 @@ use Rattle.tok_buffer.specs.Entry.{Entered, enter, enter_any}
 use Rattle.tok_buffer.specs.Messages.{stream_span}
 use Rattle.tok_buffer.specs.Place.{Enclosing, in_group, Frame, frame, Place, empty_place, at, front}
 use Rattle.tok_buffer.specs.Place.{is_at_end, pass}
-use Rattle.tok_buffer.specs.Reads.{any_tree}
+use Rattle.tok_core.specs.Kinds.{any_tree}
 use Rattle.tok_buffer.specs.Spans.{current_span}
 use Rattle.tok_buffer.specs.Trees.{PassesTrees, further, read_visible}
 use Rattle.tok_buffer.specs.Reached.{Reached, begin, down, past, into, nowhere}
 use Rattle.tok_buffer.specs.View.{IsVisibleDelimiter, erased_ahead, erased_in}
-use Rattle.tok_buffer.proofs.View.Ends.{IsFilledPlace, IsSettled}
+use Rattle.tok_buffer.proofs.View.Ends.{IsFilledPlace, IsSettled, has-front}
 use Rattle.tok_buffer.proofs.View.Keeps.{kept-descend, of-front}
 use Rattle.tok_buffer.proofs.View.Moves.{IsMoved, Leads, LeadsTo, leads, leads-take, moved-pass}
 use Rattle.tok_buffer.proofs.View.Readings.{Reading}
@@ -131,9 +131,6 @@ module _ (part : Tree → Span) (span : Span) (ahead : Forest) where
 abbrev front_span : (Tree → Span) → Span → Place → Span
 front_span part scope p = elim (front p) [ Some t ↦ part t | None ↦ scope ]
 
-has-first : (f g : Forest) → has_trees f ≡ true → has_trees (concat f g) ≡ true
-has-first f g h = grind (arith, false≢true)
-
 module _ (part : Tree → Span) where
   is-next : (trees ahead : Forest) (scope span : Span) → has_trees ahead ≡ true
       → Stands part span ahead trees no_trees → IsNext part trees scope ahead span
@@ -161,8 +158,8 @@ module _ (part : Tree → Span) where
       let outer = and_parts (has_trees (erase inside) && filled inside) (filled f) k.0 in
       let inner = and_parts (has_trees (erase inside)) (filled inside) outer.0 in
       front-next o p (group delimiter.None inside span) f ls n scope
-      (has-first (concat (erase inside) (erase f)) (erased_in ls)
-      (has-first (erase inside) (erase f) inner.0))
+      (has-front (concat (erase inside) (erase f)) (erased_in ls)
+      (has-front (erase inside) (erase f) inner.0))
   next-front (at i s c (frame o p (tree (group d inside span) f)) ls) h k n scope =
       front-next o p (group d inside span) f ls n scope refl
 

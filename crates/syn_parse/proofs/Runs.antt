@@ -12,7 +12,8 @@ use Rattle.tok_buffer.specs.EachRead.{first_if}
 use Rattle.tok_buffer.specs.Place.{Place}
 use Rattle.tok_buffer.specs.Progress.{remaining}
 use Rattle.tok_buffer.specs.Reached.{Reached, down}
-use Rattle.tok_buffer.specs.Reads.{any_tree, place_after}
+use Rattle.tok_buffer.specs.Reads.{place_after}
+use Rattle.tok_core.specs.Kinds.{any_tree}
 use Rattle.tok_buffer.specs.Trees.{erased_read, erased_tree, read_visible}
 use Rattle.tok_buffer.specs.View.{erased_ahead}
 use Rattle.tok_buffer.proofs.Between.{between_next, between_same}

@@ -11,7 +11,8 @@ use Rattle.tok_buffer.specs.Buffer.{Laid}
 use Rattle.tok_buffer.specs.Messages.{message_at, one_message}
 use Rattle.tok_buffer.specs.Place.{Place, is_at_end}
 use Rattle.tok_buffer.specs.Reached.{Reached}
-use Rattle.tok_buffer.specs.Reads.{any_text, is_ident, is_ident_of, read_ident, read_lifetime}
+use Rattle.tok_buffer.specs.Reads.{any_text, is_ident_of, read_ident, read_lifetime}
+use Rattle.tok_core.specs.Kinds.{is_ident}
 use Rattle.tok_buffer.specs.Reads.{read_punct}
 use Rattle.tok_buffer.specs.declared.error.Message.{Message}
 use Rattle.tok_buffer.specs.Spans.{current_span}

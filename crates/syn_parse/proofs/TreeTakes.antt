@@ -10,7 +10,7 @@ use Rattle.tok_buffer.specs.EachRead.{first_if}
 use Rattle.tok_buffer.specs.InFront.{with_ahead}
 use Rattle.tok_buffer.specs.Place.{Place}
 use Rattle.tok_buffer.specs.Reached.{Reached, down}
-use Rattle.tok_buffer.specs.Reads.{any_tree}
+use Rattle.tok_core.specs.Kinds.{any_tree}
 use Rattle.tok_buffer.specs.Rest.{rest}
 use Rattle.tok_buffer.specs.Trees.{EndsScope, erased_read, erased_tree, read_visible}
 use Rattle.tok_buffer.specs.declared.error.Message.{Message}

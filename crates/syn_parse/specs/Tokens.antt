@@ -10,7 +10,8 @@ use Rattle.tok_leaves.specs.Spans.{call_site}
 use Rattle.tok_leaves.specs.declared.span.Span.{Span}
 use Rattle.tok_core.specs.Forest.{Tree, leaf, Forest, tree_span}
 use Rattle.tok_buffer.specs.EachRead.{first_if, first_keyword, first_lifetime, first_puncts}
-use Rattle.tok_buffer.specs.Reads.{any_text, is_ident, is_ident_of, is_literal, is_punct}
+use Rattle.tok_buffer.specs.Reads.{any_text, is_ident_of}
+use Rattle.tok_core.specs.Kinds.{is_ident, is_literal, is_punct}
 use Rattle.tok_lexical.specs.declared.delimiter.Delimiter.{Delimiter}
 use Rattle.tok_types.specs.Sees.{any_ident_first, group_first, ident_first, lifetime_first}
 use Rattle.tok_types.specs.Sees.{literal_first, punct_first, underscore_first}

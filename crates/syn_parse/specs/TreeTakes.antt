@@ -6,7 +6,7 @@ use Rattle.tok_leaves.specs.Spans.{call_site}
 use Rattle.tok_core.specs.Forest.{Tree, leaf, Forest, no_trees}
 use Rattle.tok_core.specs.declared.stream.TokenTree.{TokenTree}
 use Rattle.tok_buffer.specs.EachRead.{first_if}
-use Rattle.tok_buffer.specs.Reads.{any_tree}
+use Rattle.tok_core.specs.Kinds.{any_tree}
 use Rattle.tok_buffer.specs.Trees.{read_visible}
 use Rattle.syn_parse.specs.ErrorWords.{refused_at}
 use Rattle.syn_parse.specs.Lighter.{by-lowers, if-shorter, lightens_lower}

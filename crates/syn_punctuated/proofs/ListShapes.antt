@@ -18,6 +18,7 @@ use Rattle.syn_parse.specs.Takes.{Outcome, Taking, and_then, found, missing}
 use Rattle.syn_parse.specs.Takings.{Lightens, Lowers}
 use Rattle.syn_parse.specs.Tokens.{punctuation, take_token}
 use Rattle.syn_punctuated.specs.TakeLists.{is_left, take_list, take_terminated, take_turns}
+use Rattle.tok_core.proofs.Facts.{concat-none}
 
 module _ {A P : Type 0} (begins goes_on : Ahead → Bool) (value : Taking A) (sign : Taking P) where
   -- values and separators in turn, and what is ahead before and after them
@@ -118,10 +119,6 @@ no_trees_left a = grind (arith, false≢true)
 pub nothing_left : (a : Ahead) → a.trees ≡ no_trees → a.unread ≡ None → a ≡ all_taken
 nothing_left a e c = grind arith
 
-pub none_after : (f : Forest) → concat f no_trees ≡ f
-none_after no_trees = refl
-none_after (tree t f) = ap (tree t) (none_after f)
-
 -- Lists to the end, with signs of one character, by a grammar of three clauses: no value; a last
 -- value; a value, a sign and more. What is taken is such a list.
 module _ {A : Type 0} {k c : ℕ} {Is : A → List Tree → Type 0}
@@ -137,7 +134,7 @@ module _ {A : Type 0} {k c : ℕ} {Is : A → List Tree → Type 0}
       → Turns is_left is_left value sign a vs ps d
       → Are a.trees vs ps × (d.trees ≡ no_trees) × (d.unread ≡ a.unread)
   turns_are _ _ _ _ (done a e) = grind (arith, no_trees_left)
-  turns_are _ _ _ _ (bare a b v e i g) = grind (arith, no_trees_left, none_after)
+  turns_are _ _ _ _ (bare a b v e i g) = grind (arith, no_trees_left, concat-none)
   turns_are _ _ _ _ (turn a b n d v p vs ps e i g q rest) =
       grind (arith, before, turns_are n d vs ps rest)
 
@@ -174,7 +171,7 @@ module _ {A : Type 0} {k c : ℕ} {value : Taking A} (low : Lowers value)
   pub last_taken : (ts : List Tree) {v : A} → value (before ts all_taken) ≡ found v all_taken
       → AllTaken (forest ts) (v ∷ []) []
   last_taken ts {v} e =
-      subst (λ f. AllTaken f (v ∷ []) []) (none_after (forest ts))
+      subst (λ f. AllTaken f (v ∷ []) []) (concat-none (forest ts))
       (by_turns (before ts all_taken) (v ∷ []) []
       (bare (before ts all_taken) all_taken v (begins _ _ v e) e refl))
 

@@ -29,6 +29,7 @@ pub use Rattle.tok_core.specs.Clear
 pub use Rattle.tok_core.specs.Erase
 pub use Rattle.tok_core.specs.Filled
 pub use Rattle.tok_core.specs.Forest
+pub use Rattle.tok_core.specs.Kinds as TreeKinds
 pub use Rattle.tok_core.specs.Laws as TreeLaws
 pub use Rattle.tok_core.specs.Lexical
 pub use Rattle.tok_core.specs.Seen as TreeSeen

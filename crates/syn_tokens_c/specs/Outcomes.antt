@@ -1,5 +1,5 @@
 -- What the calls return and write.
-use Rattle.std.specs.Prelude.{◌≡◌, ◌⊎◌, ℕ, ◌≤◌, ◌==◌, if◌then◌else◌, List, [], ◌++◌, length, drop}
+use Rattle.std.specs.Prelude.{◌≡◌, ◌⊎◌, ℕ, ◌≤◌, ◌==◌, if◌then◌else◌, List, [], length}
 use Rattle.std.specs.Prelude.{Option, Some, None, MatchOption, Result, Ok, Err, string_bytes}
 use Rattle.std.specs.Str.{IsUtf8, chars}
 use Rattle.tok_core.specs.Forest.{Forest}
@@ -16,6 +16,7 @@ use Rattle.tok_entries.specs.declared.entry.Entry.{Entry}
 use Rattle.tok_entries.specs.declared.lexing.LexedEntries.{LexedEntries}
 use Rattle.syn_tokens_c.specs.declared.read.Answer.{Answer as Made}
 use Rattle.syn_tokens_c.specs.declared.read.Reading.{Reading}
+use Rattle.entry_outcomes.specs.Answers.{Fronts}
 
 -- what came of a text, with all that there is to write
 pub record Answer : Type 0 where
@@ -68,10 +69,6 @@ lexed_answer lexed = all_of lexed.entries.items (string_bytes lexed.texts)
 abbrev pub answer_of : {A : Type 0} → (A → Answer) → Result A LexFault → Answer
 answer_of answer (Ok read) = answer read
 answer_of answer (Err fault) = refused fault
-
--- new begins with what was written, and the rest is as before
-abbrev pub Fronts : {A : Type 0} → List A → (old new : List A) → Type 0
-Fronts written old new = new ≡ written ++ drop (length written) old
 
 -- An answer is returned, and written over the front of what the caller lends, if there is room for
 -- all of it; if not, nothing is written, and the status says so. How much there is to write is

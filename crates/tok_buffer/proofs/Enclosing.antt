@@ -16,7 +16,7 @@ use Rattle.tok_buffer.proofs.Layouts.{length-layout, not_leaf}
 use Rattle.tok_buffer.proofs.Stacks.{At, at_all, entry_at, after, outside}
 use Rattle.tok_buffer.proofs.InScope.{place_step, scope_end, before_scope}
 
-leave_group-delimiter : (o : Enclosing) (p : Forest) (u : Frame) (us : List Frame) →
+pub leave_group-delimiter : (o : Enclosing) (p : Forest) (u : Frame) (us : List Frame) →
     frames_delimiter (leave_group o p u) us ≡ frames_delimiter u us
 leave_group-delimiter whole p u us = refl
 leave_group-delimiter (in_group d s) p (frame o q g) [] = refl

@@ -9,7 +9,8 @@ use Rattle.tok_buffer.specs.EachRead.{Read}
 use Rattle.tok_buffer.specs.Entry.{Entered, enter, enter_any}
 use Rattle.tok_buffer.specs.Place.{frame, Place, empty_place, at}
 use Rattle.tok_buffer.specs.Progress.{ReadLeads}
-use Rattle.tok_buffer.specs.Reads.{any_tree, place_after, read_if, read_tree, skip}
+use Rattle.tok_buffer.specs.Reads.{place_after, read_if, read_tree, skip}
+use Rattle.tok_core.specs.Kinds.{any_tree}
 use Rattle.tok_buffer.specs.Trees.{read_visible}
 use Rattle.tok_buffer.proofs.View.Moves.{Leads, LeadsTo, leads, leads-skip, leads-take}
 use Rattle.tok_buffer.proofs.View.Readings.{each_read}

@@ -1,7 +1,6 @@
 -- Laws of the layout.
 use Rattle.std.proofs.Common.{◌≡◌, ℕ, ◌+◌, ◌-◌, List, [], ◌∷◌, ◌++◌, Option, Some, None, length}
 use Rattle.std.proofs.Common.{set, refl, ap, arith, append_assoc, length-append}
-use Rattle.std.proofs.lemmas.List.{set_at}
 use Rattle.tok_leaves.specs.declared.span.Span.{Span}
 use Rattle.tok_lexical.specs.declared.delimiter.Delimiter.{Delimiter}
 use Rattle.tok_leaves.specs.Leaves.{Leaf, ident, punct, literal, ident_of, punct_of, literal_of}
@@ -13,6 +12,7 @@ use Rattle.tok_buffer.specs.declared.entry.Entry.TheVariants.{Ident, Punct, Lite
 use Rattle.tok_buffer.specs.Private.Layout.{leaf_entry, layout, entries_of}
 use Rattle.tok_buffer.specs.Private.Layout.{stack_entry, stack_entries, forest_in}
 use Rattle.tok_buffer.proofs.Forests.{reversed_is}
+use Rattle.tok_core.proofs.Levels.{set_first}
 
 -- the leaf that an entry is
 abbrev as_leaf : Entry → Option Leaf
@@ -72,11 +72,6 @@ forest_in-entries_of : (f : Forest) → forest_in (entries_of f) ≡ f
 forest_in-entries_of f =
     rw (stack_entries-append (layout f) (End 0 ∷ []) [], stack_entries-layout f no_trees [])
     (concat-none f)
-
--- what filling a group leaves
-set_first : (xs ys zs : List Entry) (x y : Entry) → set (((xs ++ x ∷ []) ++ ys) ++ zs)
-    (length xs) y ≡ xs ++ y ∷ (ys ++ zs)
-set_first xs ys zs x y = simp append_assoc (set_at xs x (ys ++ zs) y (length xs) refl)
 
 pub fill_lays : (xs : List Entry) (d : Delimiter) (p : Span) (c : Forest) (ys zs : List Entry)
     (n k : ℕ) → n ≡ length xs → ys ≡ (xs ++ End 0 ∷ []) ++ layout c → k ≡ length ys →

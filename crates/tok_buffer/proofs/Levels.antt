@@ -4,17 +4,17 @@ use Rattle.std.proofs.Common.{ap, ◌∙◌, arith, append_assoc, length-append}
 use Rattle.tok_leaves.specs.declared.span.Span.{Span}
 use Rattle.tok_leaves.specs.Leaves.{Leaf}
 use Rattle.tok_lexical.specs.declared.delimiter.Delimiter.{Delimiter}
-use Rattle.tok_core.specs.Building.{Levels, add_leaf, opened, Closes, but_last, last_of}
+use Rattle.tok_core.specs.Building.{Levels, add_leaf, opened, Closes, but_last, last_of, places}
 use Rattle.std.specs.Prelude.{true, ◌≤◌, Option, None, Some}
 use Rattle.std.specs.Option.{option_to_list}
 use Rattle.tok_core.specs.Filled.{has_trees}
 use Rattle.tok_core.specs.Forest.{leaf, group, Forest, no_trees, tree, concat}
 use Rattle.tok_core.specs.Weight.{weight}
 use Rattle.tok_core.proofs.Facts.{concat-none}
-use Rattle.tok_core.proofs.Levels.{ends_in_last, levels_of-put, one_end, same_levels}
+use Rattle.tok_core.proofs.Levels.{ends_in_last, levels_of-put, one_end, same_levels, places_length}
 use Rattle.tok_buffer.specs.declared.entry.Entry.{Entry}
 use Rattle.tok_buffer.specs.declared.entry.Entry.TheVariants.{Group, End}
-use Rattle.tok_buffer.specs.Private.Layout.{leaf_entry, layout, entries_of, laid, places, levels_in}
+use Rattle.tok_buffer.specs.Private.Layout.{leaf_entry, layout, entries_of, laid, levels_in}
 use Rattle.tok_buffer.specs.Private.Layout.{stack_entries}
 use Rattle.tok_buffer.proofs.Layouts.{length-layout, layout-concat, stack_entries-append}
 use Rattle.tok_buffer.proofs.Layouts.{stack_entries-layout, fill_lays}
@@ -125,10 +125,6 @@ leaves_level xs os ps n s (e, p) some o = go s.outer refl some
 pub left_before : (xs : List Entry) (ps : List ℕ) (n : ℕ) (s : Levels) → Left xs ps n s →
     n < length xs
 left_before xs ps n s h = omega (arith, h.place, ap length h.entries, length-append {A = Entry})
-
-pub places_length : (n : ℕ) (s : List Forest) → length (places n s) ≡ length s
-places_length n [] = refl
-places_length n (f ∷ s) = cc (places_length (n + weight f + 1) s)
 
 -- Where a level is open, its place can be taken. `close` and `take_back` share these lemmas.
 module _ (xs : List Entry) (os : List ℕ) (old : Levels) (h : IsBuilt xs os (levels_in xs))

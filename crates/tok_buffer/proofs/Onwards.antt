@@ -17,7 +17,8 @@ use Rattle.tok_buffer.specs.Place.{leave_group, front, pass, leave_finished}
 use Rattle.tok_buffer.specs.Progress.{ReadsGoLater, ReadsKeepScope, StaysIn, remaining}
 use Rattle.tok_buffer.specs.Progress.{remaining_around, ReadsOn, ReadsGoOn, SkipsGoOn, EntersOn}
 use Rattle.tok_buffer.specs.Progress.{EntriesGoOn, MovesStay, StaysAlong, CallsLead, ReadLeads}
-use Rattle.tok_buffer.specs.Reads.{any_tree, read_if, read_tree, skip}
+use Rattle.tok_buffer.specs.Reads.{read_if, read_tree, skip}
+use Rattle.tok_core.specs.Kinds.{any_tree}
 use Rattle.tok_buffer.proofs.View.Keeps.{IsKept, of-entered, kept-leave_finished, kept-descend}
 use Rattle.tok_buffer.proofs.View.Moves.{some_weight, Leads, LeadsTo, IsEmpty, IsNone, leads, leads-take}
 use Rattle.tok_buffer.proofs.View.Moves.{leads-skip, leads-nowhere}

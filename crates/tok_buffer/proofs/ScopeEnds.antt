@@ -15,7 +15,8 @@ use Rattle.tok_buffer.specs.Order.{same_scope}
 use Rattle.tok_buffer.specs.Place.{Frame, frame, Place, empty_place, at, is_at_end}
 use Rattle.tok_buffer.specs.Progress.{remaining}
 use Rattle.tok_buffer.specs.Reached.{Reached}
-use Rattle.tok_buffer.specs.Reads.{any_tree, place_after, read_tree}
+use Rattle.tok_buffer.specs.Reads.{place_after, read_tree}
+use Rattle.tok_core.specs.Kinds.{any_tree}
 use Rattle.tok_buffer.specs.Rest.{rest, rest_in}
 use Rattle.tok_buffer.specs.Trees.{EndsScope, PassesTrees, erased_read, erased_tree, here}
 use Rattle.tok_buffer.specs.Trees.{further, read_visible}

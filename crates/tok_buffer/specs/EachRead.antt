@@ -3,7 +3,8 @@ use Rattle.std.specs.Prelude.{ℕ, Bool, if◌then◌else◌, List, [], ◌∷�
 use Rattle.tok_core.specs.Clear.{is_joint_apostrophe}
 use Rattle.tok_core.specs.Forest.{Tree, Forest, no_trees, tree}
 use Rattle.tok_buffer.specs.Place.{Place}
-use Rattle.tok_buffer.specs.Reads.{is_ident, is_ident_of, is_joint_of, is_literal, is_punct}
+use Rattle.tok_buffer.specs.Reads.{is_ident_of, is_joint_of}
+use Rattle.tok_core.specs.Kinds.{is_ident, is_literal, is_punct}
 use Rattle.tok_buffer.specs.Reads.{is_punct_of, read_ident, read_keyword, read_lifetime}
 use Rattle.tok_buffer.specs.Reads.{read_literal, read_punct, read_punctuation, read_word}
 

@@ -25,6 +25,7 @@ pub mod Private
 pub use Rattle.tok_core.specs.Clear
 pub use Rattle.tok_leaves.specs.Leaves
 pub use Rattle.tok_core.specs.Forest
+pub use Rattle.tok_core.specs.Kinds
 pub use Rattle.tok_leaves.specs.Laws
 pub use Rattle.tok_lexical.specs.Characters
 pub use Rattle.tok_core.specs.Lexical.Errors

@@ -5,8 +5,9 @@ use Rattle.tok_lexical.specs.Ascii.{apostrophe}
 use Rattle.tok_leaves.specs.declared.punct.Spacing.TheVariants.{Joint}
 use Rattle.tok_core.specs.Clear.{is_joint_apostrophe}
 use Rattle.tok_leaves.specs.declared.span.Span.{Span}
-use Rattle.tok_leaves.specs.Leaves.{ident, punct, literal}
+use Rattle.tok_leaves.specs.Leaves.{ident, punct}
 use Rattle.tok_core.specs.Forest.{Tree, leaf, group, tree_span}
+use Rattle.tok_core.specs.Kinds.{any_tree, is_ident, is_literal, is_punct}
 use Rattle.tok_buffer.specs.Descent.{descend}
 use Rattle.tok_buffer.specs.Place.{Place, front, pass}
 
@@ -24,25 +25,10 @@ abbrev pub read_then : Option (List Tree × Place) → (Place → Option (List T
 read_then None g = None
 read_then (Some r) g = elim (g r.1) [ Some q ↦ Some (r.0 ++ q.0, q.1) | None ↦ None ]
 
--- an identifier, raw or not, keywords among them
-abbrev pub is_ident : Tree → Bool
-is_ident (leaf (ident text span)) = true
-is_ident t = false
-
 -- an identifier whose text, `r#` included, passes the test
 abbrev pub is_ident_of : (List ℕ → Bool) → Tree → Bool
 is_ident_of wanted (leaf (ident text span)) = wanted text
 is_ident_of wanted t = false
-
--- a literal of any kind
-abbrev pub is_literal : Tree → Bool
-is_literal (leaf (literal text span)) = true
-is_literal t = false
-
--- a punct other than an apostrophe
-abbrev pub is_punct : Tree → Bool
-is_punct (leaf (punct c spacing span)) = not (c == apostrophe)
-is_punct t = false
 
 -- a punct of this character, joint or not; no apostrophe is one
 abbrev pub is_punct_of : ℕ → Tree → Bool
@@ -58,10 +44,6 @@ is_joint_of wanted t = false
 abbrev pub is_group : Tree → Bool
 is_group (group d inside span) = true
 is_group t = false
-
--- a test that every tree passes
-abbrev pub any_tree : Tree → Bool
-any_tree t = true
 
 -- the next visible tree if it is an identifier, and the place after it
 abbrev pub read_ident : Place → Option (List Tree × Place)

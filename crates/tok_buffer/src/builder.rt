@@ -27,8 +27,8 @@ pub struct EntryBuilder {
 
 impl Model for EntryBuilder {
     ghost use Rattle.std.specs.Prelude.{◌≡◌};
-    ghost use Rattle.tok_core.specs.Building.{Levels, levels_code};
-    ghost use Rattle.tok_buffer.specs.Private.Layout.{layout, laid, places, levels_in};
+    ghost use Rattle.tok_core.specs.Building.{Levels, levels_code, places};
+    ghost use Rattle.tok_buffer.specs.Private.Layout.{layout, laid, levels_in};
 
     ghost Value = { Levels };
 

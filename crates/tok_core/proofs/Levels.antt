@@ -1,7 +1,10 @@
--- Levels, and the forests of which they are made.
-use Rattle.std.proofs.Common.{◌≡◌, List, [], ◌∷◌, ◌++◌, length, length-append, refl, ap, arith}
-use Rattle.tok_core.specs.Building.{Levels, but_last, last_of, levels_of}
+-- Levels, and the forests of which they are made, and lists in which an element is set later.
+use Rattle.std.proofs.Common.{◌≡◌, ℕ, ◌+◌, List, [], ◌∷◌, ◌++◌, length, length-append, refl, ap}
+use Rattle.std.proofs.Common.{arith, append_assoc, set}
+use Rattle.std.proofs.lemmas.List.{set_at}
+use Rattle.tok_core.specs.Building.{Levels, but_last, last_of, levels_of, places}
 use Rattle.tok_core.specs.Forest.{Forest}
+use Rattle.tok_core.specs.Weight.{weight}
 
 but_last-put : (f : Forest) (s : List Forest) (g : Forest) → but_last f (s ++ g ∷ []) ≡ f ∷ s
 but_last-put f [] g = refl
@@ -32,3 +35,12 @@ one_end (w ∷ xs) (v ∷ ys) x y e =
 pub same_levels : (s : Levels) (outer : List Forest) (inner : Forest) → s.outer ≡ outer →
     s.inner ≡ inner → s ≡ record { outer = outer; inner = inner }
 same_levels s outer inner p q = λ i. record { outer = p i; inner = q i }
+
+-- what is set where an element stands, with more after it
+pub set_first : {A : Type 0} (xs ys zs : List A) (x y : A)
+    → set (((xs ++ x ∷ []) ++ ys) ++ zs) (length xs) y ≡ xs ++ y ∷ (ys ++ zs)
+set_first xs ys zs x y = simp append_assoc (set_at xs x (ys ++ zs) y (length xs) refl)
+
+pub places_length : (n : ℕ) (s : List Forest) → length (places n s) ≡ length s
+places_length n [] = refl
+places_length n (f ∷ s) = cc (places_length (n + weight f + 1) s)

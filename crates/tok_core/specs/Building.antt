@@ -1,12 +1,13 @@
 -- What a builder holds in the middle of a text: the trees before each group that is open, outermost
 -- first, and those of the innermost level.
-use Rattle.std.specs.Prelude.{◌≡◌, List, [], ◌∷◌, ◌++◌, refl}
+use Rattle.std.specs.Prelude.{◌≡◌, ℕ, ◌+◌, List, [], ◌∷◌, ◌++◌, refl}
 use Rattle.std.specs.Coded.{Coded, code_by, coded×, coded_list}
 use Rattle.tok_lexical.specs.declared.delimiter.Delimiter.{Delimiter}
 use Rattle.tok_leaves.specs.declared.span.Span.{Span}
 use Rattle.tok_leaves.specs.Leaves.{Leaf}
 use Rattle.tok_core.specs.Code.{forest_code}
 use Rattle.tok_core.specs.Forest.{leaf, group, Forest, no_trees, tree, concat}
+use Rattle.tok_core.specs.Weight.{weight}
 
 -- the trees of each open level; without an open group, `outer` is empty
 pub record Levels : Type 0 where
@@ -50,6 +51,11 @@ but_last f (g ∷ s) = f ∷ but_last g s
 abbrev pub last_of : Forest → List Forest → Forest
 last_of f [] = f
 last_of f (g ∷ s) = last_of g s
+
+-- the places of the groups that are to come, if the first level begins at this place
+abbrev pub places : ℕ → List Forest → List ℕ
+places n [] = []
+places n (f ∷ s) = (n + weight f) ∷ places (n + weight f + 1) s
 
 -- the levels of these forests, outermost first
 abbrev pub levels_of : List Forest → Levels

@@ -4,6 +4,7 @@ pub mod Code
 pub mod Erase
 pub mod Filled
 pub mod Forest
+pub mod Kinds
 pub mod Laws
 pub mod Lexical
 pub mod Seen

@@ -2,11 +2,11 @@
 use Rattle.std.proofs.Common.{◌≡◌, ℕ, ◌+◌, ◌-◌, ◌<◌, Bool, true, false, List, [], ◌∷◌, ◌++◌, length}
 use Rattle.std.proofs.Common.{refl, ap, sym, ◌∙◌, subst, arith, append_assoc, length-append, set}
 use Rattle.std.proofs.Common.{take, drop, map, eqb-true}
-use Rattle.std.proofs.lemmas.Bool.{false≢true, ltb-true}
+use Rattle.std.proofs.lemmas.Bool.{false≢true, ltb-true, and_from}
 use Rattle.std.proofs.lemmas.List.{append-nil}
 use Rattle.std.proofs.lemmas.Str.{encode_ascii}
 use Rattle.std.proofs.Math.Seq.{drop-append_seam, take-append_seam}
-use Rattle.std.specs.Prelude.{cond, nat_lt, slice_index_or, suc}
+use Rattle.std.specs.Prelude.{cond, nat_lt, slice_index_or}
 use Rattle.tok_lexical.specs.declared.delimiter.Delimiter.{Delimiter}
 use Rattle.tok_leaves.specs.declared.punct.Spacing.{Spacing}
 use Rattle.tok_leaves.specs.declared.punct.Spacing.TheVariants.{Alone, Joint}
@@ -15,18 +15,18 @@ use Rattle.tok_leaves.specs.declared.span.Origin.TheVariants.{CallSite, Source}
 use Rattle.tok_leaves.specs.declared.span.Span.{Span}
 use Rattle.tok_leaves.specs.Leaves.{Leaf, ident, punct, literal, leaf_text}
 use Rattle.tok_leaves.specs.Spans.{source, opening_span, closing_span}
-use Rattle.tok_core.specs.Building.{Levels, add_leaf, opened, Closes, but_last, last_of}
+use Rattle.tok_core.specs.Building.{Levels, add_leaf, opened, Closes, but_last, last_of, places}
 use Rattle.tok_core.specs.Code.{delimiter_back}
 use Rattle.tok_core.specs.Forest.{Tree, leaf, group, Forest, no_trees, tree, concat}
 use Rattle.tok_core.specs.Weight.{weight}
 use Rattle.tok_core.proofs.Facts.{concat-none}
 use Rattle.tok_core.proofs.Levels.{ends_in_last, levels_of-put, one_end}
-use Rattle.tok_pruned.proofs.Pruning.{both_true, first_of, second_of}
+use Rattle.tok_pruned.proofs.Pruning.{first_of, second_of}
 use Rattle.tok_entries.specs.declared.entry.Entry.{Entry}
 use Rattle.tok_entries.specs.Entries.{edge, end_byte, entries, first_byte}
 use Rattle.tok_entries.specs.Entries.{leaf_entry, spacing_number, texts, tree_entries, tree_texts}
 use Rattle.tok_entries.specs.Private.Laid.{all_fit, fits, fits_leaf, fits_tree, is_in_source, IsLaid}
-use Rattle.tok_entries.specs.Private.Laid.{laid, laid_texts, leaf_of, levels_in, places, spacing_of}
+use Rattle.tok_entries.specs.Private.Laid.{laid, laid_texts, leaf_of, levels_in, spacing_of}
 use Rattle.tok_entries.specs.Private.Laid.{stack_entries, stack_entry, stack_tree}
 use Rattle.tok_entries.specs.Private.Laid.{unclosed}
 use Rattle.tok_entries.proofs.Fillings.{fill_lays, length-entries}
@@ -187,9 +187,9 @@ laid_now es bs ps s h = rw (levels_are es bs ps s h) h
 
 fits_on : (f : Forest) (t : Tree) → fits f ≡ true → fits_tree t ≡ true
     → fits (concat f (tree t no_trees)) ≡ true
-fits_on no_trees t h k = both_true (fits_tree t) true k refl
+fits_on no_trees t h k = and_from (fits_tree t) true k refl
 fits_on (tree u f) t h k =
-    both_true (fits_tree u) (fits (concat f (tree t no_trees)))
+    and_from (fits_tree u) (fits (concat f (tree t no_trees)))
     (first_of (fits_tree u) (fits f) h)
     (fits_on f t (second_of (fits_tree u) (fits f) h) k)
 
@@ -208,7 +208,7 @@ tree_laid es fs bs cs ps outer f t h k l p e y b z =
       ),
       cc (append_assoc (laid_texts outer) (texts f) (tree_texts t), texts_on f t),
       p,
-      both_true (all_fit outer) (fits (concat f (tree t no_trees))) h (fits_on f t k l),
+      and_from (all_fit outer) (fits (concat f (tree t no_trees))) h (fits_on f t k l),
     )
 
 leaf_laid : (es fs : List Entry) (bs cs ps : List ℕ) (s : Levels) (l : Leaf) → IsLaid es bs ps s
@@ -303,9 +303,9 @@ first_place s f =
 
 all_fit-put : (s : List Forest) (f : Forest) → all_fit s ≡ true → fits f ≡ true
     → all_fit (s ++ f ∷ []) ≡ true
-all_fit-put [] f h k = both_true (fits f) true k refl
+all_fit-put [] f h k = and_from (fits f) true k refl
 all_fit-put (g ∷ s) f h k =
-    both_true (fits g) (all_fit (s ++ f ∷ [])) (first_of (fits g) (all_fit s) h)
+    and_from (fits g) (all_fit (s ++ f ∷ [])) (first_of (fits g) (all_fit s) h)
     (all_fit-put s f (second_of (fits g) (all_fit s) h) k)
 
 open_laid : (es fs : List Entry) (bs ps qs : List ℕ) (s : Levels) → IsLaid es bs ps s
@@ -314,7 +314,7 @@ open_laid es fs bs ps qs s (e, b, p, h) y q = (
   cc (laid_first s.outer s.inner, append-nil (laid 0 (s.outer ++ s.inner ∷ []))),
   cc (texts-put s.outer s.inner, append-nil (laid_texts (s.outer ++ s.inner ∷ []))),
   cc (first_place s.outer s.inner),
-  both_true (all_fit (s.outer ++ s.inner ∷ [])) true
+  and_from (all_fit (s.outer ++ s.inner ∷ [])) true
       (all_fit-put s.outer s.inner (first_of (all_fit s.outer) (fits s.inner) h)
       (second_of (all_fit s.outer) (fits s.inner) h)) refl,
 )
@@ -336,7 +336,7 @@ all_fit-but_last : (f : Forest) (s : List Forest) → all_fit (f ∷ s) ≡ true
 all_fit-but_last f [] h = (refl, first_of (fits f) true h)
 all_fit-but_last f (g ∷ s) h =
     let (a, b) = all_fit-but_last g s (second_of (fits f) (all_fit (g ∷ s)) h) in
-    (both_true (fits f) (all_fit (but_last g s)) (first_of (fits f) (all_fit (g ∷ s)) h) a, b)
+    (and_from (fits f) (all_fit (but_last g s)) (first_of (fits f) (all_fit (g ∷ s)) h) a, b)
 
 -- Where a level is left, its group's place is the last one, and it is in the entries.
 pub record Left (es : List Entry) (bs ps : List ℕ) (n : ℕ) (s : Levels) : Type 0 where
@@ -394,10 +394,6 @@ left_before es bs ps n s h =
       length-append x (unclosed m ∷ []),
     )
 
-pub places_length : (n : ℕ) (s : List Forest) → length (places n s) ≡ length s
-places_length n [] = refl
-places_length n (f ∷ s) = ap suc (places_length (n + weight f + 1) s)
-
 at_seam : (xs ys : List Entry) (y d : Entry) (n : ℕ) → n ≡ length xs
     → slice_index_or (xs ++ y ∷ ys) n d ≡ y
 at_seam xs ys y d n e = rw e (seam xs)
@@ -438,7 +434,7 @@ module _ (es fs : List Entry) (bs ps : List ℕ) (n k begin to : ℕ) (s : Level
       h.entries q ends ec ez y eo ef refl in
       tree_laid x (set fs n first) (laid_texts h.outer ++ texts h.before) bs ps h.outer h.before
       (group d s.inner p) h.fit.0 h.fit.1
-      (both_true (fits s.inner) (is_in_source p) h.fit.2 inside) h.places refl
+      (and_from (fits s.inner) (is_in_source p) h.fit.2 inside) h.places refl
       (filled ∙ ap (λ m. x ++ tree_entries m (group d s.inner p)) w) refl h.texts
 
   pub close_kept : IsLaid (set fs n first) bs ps (levels_in (set fs n first) bs)

@@ -24,8 +24,8 @@ use Rattle.tok_entries.specs.Entries.{BeginsWith, delimiter_code, edge, leaf_ent
 use Rattle.tok_entries.specs.Entries.{texts, tree_entries, tree_texts}
 use Rattle.tok_entries.specs.Visible.{FindsInvisible, FindsLifetime, FindsTree}
 use Rattle.tok_entries.specs.Visible.{HasNoLifetime, IsLeft, IsVisible, Reads, ReadsFirst}
-use Rattle.tok_entries.specs.Visible.{Shows, any_tree, between, is_group_of, is_ident, is_literal}
-use Rattle.tok_entries.specs.Visible.{is_punct}
+use Rattle.tok_entries.specs.Visible.{Shows, between, is_group_of}
+use Rattle.tok_core.specs.Kinds.{any_tree, is_ident, is_literal, is_punct}
 use Rattle.tok_entries.specs.Cursor.{after, front, has_apostrophe, is_joint_apostrophe, read_group}
 use Rattle.tok_entries.specs.Cursor.{read_group_at, read_ident, read_leaf, read_lifetime}
 use Rattle.tok_entries.specs.Cursor.{read_tree, step_over, whole}

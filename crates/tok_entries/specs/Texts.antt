@@ -1,5 +1,5 @@
 -- Which leaves a caller may hand in.
-use Rattle.std.specs.Prelude.{◌≡◌, ◌⊎◌, ◌≤◌, ℕ, List, [], ◌++◌, Bool, true, false, ◌||◌, None, codes}
+use Rattle.std.specs.Prelude.{◌≡◌, ◌⊎◌, ◌≤◌, ℕ, List, [], ◌++◌, true, ◌||◌, None, codes}
 use Rattle.std.specs.Str.{chars, IsUtf8}
 use Rattle.tok_lexical.specs.Characters.{is_punct_or_apostrophe}
 use Rattle.tok_lexical.specs.Errors.{error_kind}
@@ -9,9 +9,9 @@ use Rattle.tok_lexical.specs.Words.{HasRaw, IsIdentifier}
 use Rattle.tok_lexical.specs.declared.edition.Edition.TheVariants.{Edition2024}
 use Rattle.tok_lexical.specs.declared.rule.Mode.TheVariants.{Source}
 use Rattle.tok_lexical.specs.declared.rule.Rule.{Rule}
-use Rattle.tok_lexical.specs.declared.rule.Rule.TheVariants as rule
 use Rattle.tok_leaves.specs.declared.span.Span.{Span}
 use Rattle.tok_leaves.specs.Leaves.{Leaf, ident, punct, literal, leaf_span}
+use Rattle.tok_leaves.specs.Literals.{is_number_rule, is_quoted_rule}
 use Rattle.tok_leaves.specs.Spans.{source}
 use Rattle.tok_core.specs.Forest.{Tree, leaf, group, Forest, no_trees, tree}
 
@@ -22,23 +22,6 @@ IsRawWord text = (name : List ℕ) × (text ≡ codes "r#" ++ name) × IsUtf8 na
 -- an identifier, raw or not, or the root `$crate` of a path
 abbrev pub IsWord : List ℕ → Type 0
 IsWord text = IsIdentifier (chars text) ⊎ IsRawWord text ⊎ (text ≡ codes "$crate")
-
--- a rule that takes an integer or a float
-abbrev pub is_number_rule : Rule → Bool
-is_number_rule (rule.Based b) = true
-is_number_rule rule.Float = true
-is_number_rule rule.PointedDecimal = true
-is_number_rule rule.Decimal = true
-is_number_rule r = false
-
--- a rule that takes a string, a character or a byte literal
-abbrev pub is_quoted_rule : Rule → Bool
-is_quoted_rule (rule.QuotedString c) = true
-is_quoted_rule (rule.RawString c) = true
-is_quoted_rule rule.ByteChar = true
-is_quoted_rule rule.EscapedChar = true
-is_quoted_rule rule.PlainChar = true
-is_quoted_rule r = false
 
 -- the rules of a source take all of this text by this rule, and do not reject it
 abbrev pub IsPiece : Rule → List ℕ → Type 0

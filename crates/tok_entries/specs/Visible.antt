@@ -1,5 +1,5 @@
 -- The visible trees of the entries that are left of a scope, and what it is to read the first ones.
-use Rattle.std.specs.Prelude.{◌≡◌, ◌⊎◌, ℕ, ◌+◌, ◌-◌, ◌==◌, not, Bool, true, false}
+use Rattle.std.specs.Prelude.{◌≡◌, ◌⊎◌, ℕ, ◌+◌, ◌-◌, ◌==◌, Bool, true, false}
 use Rattle.std.specs.Prelude.{List, [], ◌∷◌, ◌++◌, drop, length, take, Option, Some, MatchOption}
 use Rattle.std.specs.List.{slice_get}
 use Rattle.tok_lexical.specs.Ascii.{apostrophe}
@@ -7,9 +7,10 @@ use Rattle.tok_lexical.specs.declared.delimiter.Delimiter.{Delimiter}
 use Rattle.tok_lexical.specs.declared.delimiter.Delimiter.TheVariants as delimiter
 use Rattle.tok_leaves.specs.declared.punct.Spacing.TheVariants.{Joint}
 use Rattle.tok_leaves.specs.declared.span.Span.{Span}
-use Rattle.tok_leaves.specs.Leaves.{Leaf, ident, punct, literal, leaf_text}
+use Rattle.tok_leaves.specs.Leaves.{Leaf, ident, punct, leaf_text}
 use Rattle.tok_core.specs.Erase.{erase}
 use Rattle.tok_core.specs.Forest.{Tree, leaf, group, Forest, no_trees, tree}
+use Rattle.tok_core.specs.Kinds.{any_tree, is_ident, is_literal, is_punct}
 use Rattle.tok_entries.specs.Entries.{BeginsWith, delimiter_code, edge, leaf_entry, texts}
 use Rattle.tok_entries.specs.Entries.{tree_entries, tree_texts}
 use Rattle.tok_entries.specs.Cursor.{read_group, read_ident, read_lifetime, read_literal}
@@ -40,29 +41,10 @@ pub data Shows : (at : ℕ) → List Entry → Forest → Type 0 where
 abbrev pub IsLeft : (at : ℕ) → (bs : List ℕ) → List Entry → Forest → Type 0
 IsLeft at bs es f = Shows at es f × BeginsWith (drop at bs) (texts f)
 
--- an identifier, raw or not, keywords among them
-abbrev pub is_ident : Tree → Bool
-is_ident (leaf (ident text span)) = true
-is_ident t = false
-
--- a punct other than an apostrophe
-abbrev pub is_punct : Tree → Bool
-is_punct (leaf (punct c spacing span)) = not (c == apostrophe)
-is_punct t = false
-
--- a literal of any kind
-abbrev pub is_literal : Tree → Bool
-is_literal (leaf (literal text span)) = true
-is_literal t = false
-
 -- a group of this delimiter
 abbrev pub is_group_of : Delimiter → Tree → Bool
 is_group_of d (group e inside span) = delimiter_code e == delimiter_code d
 is_group_of d t = false
-
--- a test that every tree passes
-abbrev pub any_tree : Tree → Bool
-any_tree t = true
 
 -- the entries of a token
 abbrev pub between : Step → List Entry → List Entry

@@ -1,8 +1,9 @@
 //! Decides whether a text is valid for an identifier or a literal.
 ghost use Rattle.std.specs.Prelude.{◌≡◌, MatchBool, MatchOption};
 ghost use Rattle.tok_lexical.specs.declared.rule.Rule.{Rule};
-ghost use Rattle.tok_entries.specs.Texts.{IsLiteralText, IsNegative, IsPiece, IsRawWord, IsUnsigned, IsWord, is_number_rule, is_quoted_rule};
+ghost use Rattle.tok_entries.specs.Texts.{IsLiteralText, IsNegative, IsPiece, IsRawWord, IsUnsigned, IsWord};
 
+use tok_leaves::{is_number_rule, is_quoted_rule};
 use tok_lexical::words::{has_no_raw, is_identifier};
 use tok_lexical::{Edition, Mode, Rule, error_kind, first_rule};
 
@@ -38,7 +39,7 @@ fn is_unsigned(text: &str) -> bool
     ensures { MatchBool result (IsUnsigned text.now) (IsUnsigned text.now → ⊥) }
 {
     match rule_of(text) {
-        Some(rule) => makes_number(rule) || makes_quoted(rule),
+        Some(rule) => is_number_rule(rule) || is_quoted_rule(rule),
         None => false,
     }
 }
@@ -48,7 +49,7 @@ fn is_negative(text: &str) -> bool
 {
     match text.strip_prefix("-") {
         Some(number) => match rule_of(number) {
-            Some(rule) => makes_number(rule),
+            Some(rule) => is_number_rule(rule),
             None => false,
         },
         None => false,
@@ -68,26 +69,4 @@ fn rule_of(text: &str) -> Option<Rule>
     } else {
         None
     }
-}
-
-fn makes_number(rule: Rule) -> bool
-    ensures { result ≡ is_number_rule rule }
-{
-    matches!(
-        rule,
-        Rule::Based(_) | Rule::Float | Rule::PointedDecimal | Rule::Decimal
-    )
-}
-
-fn makes_quoted(rule: Rule) -> bool
-    ensures { result ≡ is_quoted_rule rule }
-{
-    matches!(
-        rule,
-        Rule::QuotedString(_)
-            | Rule::RawString(_)
-            | Rule::ByteChar
-            | Rule::EscapedChar
-            | Rule::PlainChar
-    )
 }

@@ -1,6 +1,6 @@
 -- A text is one literal, by one rule.
-use Rattle.std.proofs.Common.{◌≡◌, ◌∙◌, ◌∷◌, [], arith, false, length, List, ℕ, None, Some}
-use Rattle.std.proofs.Common.{suc, sym, true}
+use Rattle.std.proofs.Common.{◌≡◌, ◌∙◌, [], false, length, List, ℕ, None, Some}
+use Rattle.std.proofs.Common.{sym, true}
 use Rattle.std.specs.Option.{is_some}
 use Rattle.std.specs.Prelude.{◌==◌, Bool, MatchBool, Option, not}
 use Rattle.std.specs.Str.{chars, IsUtf8}
@@ -9,7 +9,7 @@ use Rattle.std.proofs.lemmas.List.{append-nil}
 use Rattle.std.proofs.lemmas.Option.{none-some}
 use Rattle.std.proofs.lemmas.Str.{chars-nil}
 use Rattle.tok_lexical.specs.Errors.{error_kind}
-use Rattle.tok_lexical.specs.Fits.{IsFirstFit, here, later, NoneBefore}
+use Rattle.tok_lexical.specs.Fits.{IsFirstFit, NoneBefore}
 use Rattle.tok_lexical.specs.Rules.{rules_of}
 use Rattle.tok_lexical.specs.declared.edition.Edition.TheVariants.{Edition2024}
 use Rattle.tok_lexical.specs.declared.lex_error_kind.LexErrorKind.{LexErrorKind}
@@ -17,27 +17,20 @@ use Rattle.tok_lexical.specs.declared.rule.Mode.TheVariants.{Source}
 use Rattle.tok_lexical.specs.declared.rule.Rule.{Rule}
 use Rattle.tok_lexical.proofs.Fits.{decides_unique, fits_longest}
 use Rattle.tok_leaves.specs.Literals.{IsOneLiteral, is_literal_rule}
-use Rattle.tok_leaves.proofs.Names.{no_text, some_chars}
-
-none_fits : (rules : List Rule) (text : List ℕ) (rule : Rule) (piece rest : List ℕ) →
-    NoneBefore rules text (length rules) → IsFirstFit text rules rule piece rest → ⊥
-none_fits [] text rule piece rest n d = elim d [ ]
-none_fits (r ∷ rules) text rule piece rest n (here t) =
-    n.none 0 r (omega arith) (omega arith) (piece, rest, t.cut, t.spelled)
-none_fits (r ∷ rules) text rule piece rest n (later m d) =
-    none_fits rules text rule piece rest
-    (record { none = λ j q k l. n.none (suc j) q (omega arith) (omega arith) }) d
+use Rattle.tok_leaves.proofs.Names.{no_text}
+use Rattle.tok_lexical.proofs.Texts.{some_left}
+use Rattle.tok_lexical.proofs.Sources.{none_decides}
 
 pub no_rule : (text : List ℕ) → NoneBefore (rules_of (Source Edition2024)) text
     (length (rules_of (Source Edition2024))) → IsOneLiteral text → ⊥
 no_rule text n (rule, is, fit, ok) =
-    none_fits (rules_of (Source Edition2024)) text rule text [] n fit
+    none_decides (rules_of (Source Edition2024)) text rule text [] n fit
 
 -- what a rule takes of a text
 module _ (text piece : List ℕ) (rest : List ℕ) (rule : Rule)
     (fit : IsFirstFit text (rules_of (Source Edition2024)) rule piece (chars rest)) where
   pub some_after : IsUtf8 rest → (length rest == 0) ≡ false → IsOneLiteral text → ⊥
-  some_after u h (other, is, fits, ok) = some_chars rest u h (decides_unique fit fits).2
+  some_after u h (other, is, fits, ok) = some_left rest u h (decides_unique fit fits).2
 
   pub other_rule : is_literal_rule rule ≡ false → IsOneLiteral text → ⊥
   other_rule h (other, is, fits, ok) =

@@ -1,16 +1,17 @@
 -- The names of lifetimes, and why a text is none.
-use Rattle.std.proofs.Common.{◌≡◌, ◌∙◌, sym, ap, refl, ℕ, Bool, true, false, List, [], ◌∷◌}
+use Rattle.std.proofs.Common.{◌≡◌, ◌∙◌, sym, refl, ℕ, Bool, true, false, List, [], ◌∷◌}
 use Rattle.std.proofs.Common.{length, None, Some, ◌⊎◌, inl, inr, arith, eqb-true}
 use Rattle.std.specs.Prelude.{◌==◌}
 use Rattle.std.specs.Str.{chars, IsUtf8}
 use Rattle.std.proofs.lemmas.Bool.{and_parts, cond-true, cond-false, false≢true}
-use Rattle.std.proofs.lemmas.Str.{chars-nil, encodes-chars}
+use Rattle.std.proofs.lemmas.Str.{chars-nil}
 use Rattle.tok_lexical.specs.Words.{IsIdentifier, HasRaw, has_no_raw}
 use Rattle.tok_leaves.specs.declared.ident.MakeFault.{MakeFault}
 use Rattle.tok_leaves.specs.declared.ident.MakeFault.TheVariants.{Refused, Memory}
 use Rattle.tok_leaves.specs.Lifetimes.{is_identifier, plain_error, raw_error, name_fault}
 use Rattle.tok_leaves.specs.Lifetimes.{error_in}
 use Rattle.tok_leaves.specs.declared.lifetime.LifetimeFault.TheVariants.{Empty, NotIdentifier}
+use Rattle.tok_lexical.proofs.Texts.{some_left}
 
 pub no_text : (bs : List ℕ) → (length bs == 0) ≡ true → bs ≡ []
 no_text [] h = refl
@@ -52,18 +53,12 @@ not_told : (cs : List ℕ) (b : Bool) → is_identifier cs ≡ b → (IsIdentifi
 not_told cs true e never = absurd (never (tells cs e))
 not_told cs false e never = e
 
--- some text has some characters
-pub some_chars : (bs : List ℕ) → IsUtf8 bs → (length bs == 0) ≡ false → chars bs ≡ [] → ⊥
-some_chars bs u h e =
-    let empty : bs ≡ [] = cc (encodes-chars bs u) in
-    false≢true (sym h ∙ ap (λ b. length b == 0) empty)
-
 -- the maker's fault says what is wrong with a name
 pub plain_fault : (bs : List ℕ) (fault : MakeFault) → IsUtf8 bs → (length bs == 0) ≡ false
     → (IsIdentifier (chars bs) → fault ≡ Memory) → ((IsIdentifier (chars bs) → ⊥) → fault ≡ Refused)
     → plain_error (chars bs) ≡ error_in (name_fault fault)
 plain_fault bs Refused u h takes refuses =
-    plain_refused (chars bs) (some_chars bs u h)
+    plain_refused (chars bs) (some_left bs u h)
     (not_told (chars bs) (is_identifier (chars bs)) refl
     (λ i. let wrong : Refused ≡ Memory = takes i in cc))
 plain_fault bs Memory u h takes refuses =

@@ -16,6 +16,10 @@ pub data Leaf : Type 0 where
   punct : ℕ → Spacing → Span → Leaf
   literal : List ℕ → Span → Leaf
 
+-- the most bytes of a text that is stored in place
+abbrev pub most_short : ℕ
+most_short = 14
+
 -- the leaf that an `Ident` stands for
 abbrev pub ident_of : Ident → Leaf
 ident_of i = ident i.text i.span

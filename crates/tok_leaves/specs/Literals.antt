@@ -15,18 +15,26 @@ use Rattle.tok_leaves.specs.declared.literal_fault.LiteralFault.{LiteralFault}
 use Rattle.tok_leaves.specs.declared.literal_fault.LiteralFault.TheVariants.{Sign, NotLiteral}
 use Rattle.tok_leaves.specs.declared.literal_fault.LiteralFault.TheVariants.{Memory}
 
+-- a rule that takes an integer or a float
+abbrev pub is_number_rule : Rule → Bool
+is_number_rule (Based base) = true
+is_number_rule Float = true
+is_number_rule PointedDecimal = true
+is_number_rule Decimal = true
+is_number_rule rule = false
+
+-- a rule that takes a string, a character or a byte literal
+abbrev pub is_quoted_rule : Rule → Bool
+is_quoted_rule (QuotedString contents) = true
+is_quoted_rule (RawString contents) = true
+is_quoted_rule ByteChar = true
+is_quoted_rule EscapedChar = true
+is_quoted_rule PlainChar = true
+is_quoted_rule rule = false
+
 -- the rules that take literals
 abbrev pub is_literal_rule : Rule → Bool
-is_literal_rule (QuotedString contents) = true
-is_literal_rule (RawString contents) = true
-is_literal_rule ByteChar = true
-is_literal_rule EscapedChar = true
-is_literal_rule PlainChar = true
-is_literal_rule (Based base) = true
-is_literal_rule Float = true
-is_literal_rule PointedDecimal = true
-is_literal_rule Decimal = true
-is_literal_rule rule = false
+is_literal_rule rule = is_number_rule rule || is_quoted_rule rule
 
 -- one of these rules takes all of the text, as in a source of the latest edition, and does not
 -- reject it

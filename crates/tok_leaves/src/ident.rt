@@ -1,7 +1,7 @@
 //! Identifiers.
 ghost use Rattle.std.specs.Prelude.{◌≡◌, ◌++◌, ◌≤◌, length, codes, IfOk, IfErr, SomeIff, Err, Some};
 ghost use Rattle.std.specs.Str.{chars};
-ghost use Rattle.tok_leaves.specs.Leaves.{ident, ident_of, leaf_span, leaf_text, make_fault_words, unraw};
+ghost use Rattle.tok_leaves.specs.Leaves.{ident, ident_of, leaf_span, leaf_text, make_fault_words, most_short, unraw};
 ghost use Rattle.tok_lexical.specs.Words.{IsIdentifier, HasRaw};
 
 use crate::span::Span;
@@ -144,7 +144,7 @@ impl Ident {
     /// Returns `None` if the text is longer. The call does not allocate.
     #[inline(always)]
     pub fn copied_if_short(&self) -> Option<Ident>
-        ensures { SomeIff result (length (leaf_text (ident_of self.now)) ≤ 14) self.now }
+        ensures { SomeIff result (length (leaf_text (ident_of self.now)) ≤ most_short) self.now }
     {
         let text = self.text.copied_if_short()?;
         let span = self.span;

@@ -22,7 +22,7 @@ pub use ident_fault::IdentFault;
 pub use integer_type::IntegerType;
 pub use lifetime::{Lifetime, LifetimeFault};
 pub use literal::Literal;
-pub use literal_fault::{LiteralFault, is_literal};
+pub use literal_fault::{LiteralFault, is_literal, is_number_rule, is_quoted_rule};
 pub use punct::{Punct, Spacing};
 pub use span::{Bounds, DelimSpan, Span};
 pub use text::Text;

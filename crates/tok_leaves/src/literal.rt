@@ -4,7 +4,7 @@ ghost use Rattle.std.specs.Str.{chars, IsUtf8};
 ghost use Rattle.std.specs.CStr.{c_str_bytes};
 ghost use Rattle.std.specs.Fmt.{decimal};
 ghost use Rattle.tok_leaves.specs.IntegerTypes.{integer_type_max, integer_type_name};
-ghost use Rattle.tok_leaves.specs.Leaves.{literal, literal_of, leaf_span, leaf_text};
+ghost use Rattle.tok_leaves.specs.Leaves.{literal, literal_of, leaf_span, leaf_text, most_short};
 ghost use Rattle.tok_leaves.specs.Literals.{IsOneLiteral, literal_fault};
 ghost use Rattle.tok_leaves.specs.Quoting.{escaped, in_quotes, in_apostrophes, is_unseen, shown, shown_in_quotes, escaped_byte, bytes_between};
 ghost use Rattle.tok_leaves.specs.Private.Plain.{is_plain, is_unescaped};
@@ -405,7 +405,7 @@ impl Literal {
     /// Returns `None` if the text is longer. The call does not allocate.
     #[inline(always)]
     pub fn copied_if_short(&self) -> Option<Literal>
-        ensures { SomeIff result (length (leaf_text (literal_of self.now)) ≤ 14) self.now }
+        ensures { SomeIff result (length (leaf_text (literal_of self.now)) ≤ most_short) self.now }
     {
         let text = self.text.copied_if_short()?;
         let span = self.span;

@@ -1,7 +1,7 @@
 //! Decides whether a text is exactly one literal, and finds the reason if it is not.
 ghost use Rattle.std.specs.Prelude.{◌≡◌, MatchBool, Some};
 ghost use Rattle.std.specs.Str.{chars};
-ghost use Rattle.tok_leaves.specs.Literals.{IsOneLiteral, is_literal_rule, literal_fault, literal_fault_words};
+ghost use Rattle.tok_leaves.specs.Literals.{IsOneLiteral, is_literal_rule, is_number_rule, is_quoted_rule, literal_fault, literal_fault_words};
 
 use std::alloc::AllocError;
 use std::fmt::{self, Display, Formatter, Write};
@@ -76,6 +76,25 @@ pub fn is_literal(text: &str) -> bool
 fn is_literal_rule(rule: Rule) -> bool
     ensures { result ≡ is_literal_rule rule }
 {
+    is_number_rule(rule) || is_quoted_rule(rule)
+}
+
+/// Returns `true` if `rule` takes an integer or a float.
+#[inline]
+pub fn is_number_rule(rule: Rule) -> bool
+    ensures { result ≡ is_number_rule rule }
+{
+    matches!(
+        rule,
+        Rule::Based(_) | Rule::Float | Rule::PointedDecimal | Rule::Decimal
+    )
+}
+
+/// Returns `true` if `rule` takes a string, a character or a byte literal.
+#[inline]
+pub fn is_quoted_rule(rule: Rule) -> bool
+    ensures { result ≡ is_quoted_rule rule }
+{
     matches!(
         rule,
         Rule::QuotedString(_)
@@ -83,10 +102,6 @@ fn is_literal_rule(rule: Rule) -> bool
             | Rule::ByteChar
             | Rule::EscapedChar
             | Rule::PlainChar
-            | Rule::Based(_)
-            | Rule::Float
-            | Rule::PointedDecimal
-            | Rule::Decimal
     )
 }
 

@@ -8,6 +8,8 @@ ghost use Rattle.std.specs.Cmp.Lexicographic.{pointwise, slice_cmp, nat_list_eq_
 ghost use Rattle.std.specs.Hash as fed;
 ghost use Rattle.std.specs.Ordering.{nat_cmp};
 ghost use Rattle.std.proofs.Common.{rules};
+ghost use Rattle.tok_leaves.specs.Leaves.{most_short};
+ghost use Rattle.tok_leaves.specs.Private.Kept.{most_medium};
 
 use std::alloc::{AllocError, Global};
 use std::cmp::Ordering;
@@ -109,7 +111,7 @@ impl Text {
     // Stores a piece with what follows it, as many bytes as fit.
     #[inline(always)]
     fn front(alloc: Global, piece: &str, bytes: &[u8; MOST_SHORT]) -> Text
-        requires short { length piece.now ≤ 14 }
+        requires short { length piece.now ≤ most_short }
         requires front { take (length piece.now) bytes.now ≡ piece.now }
         ensures { result ≡ piece.now }
     {
@@ -136,7 +138,7 @@ impl Text {
     }
 
     fn short(alloc: Global, text: &str) -> Text
-        requires { length text.now ≤ 14 }
+        requires { length text.now ≤ most_short }
         ensures { result ≡ text.now }
     {
         let mut bytes = [0u8; MOST_SHORT];
@@ -151,8 +153,8 @@ impl Text {
     // Kept out of line, as `long`.
     #[inline(never)]
     fn medium(alloc: Global, text: &str) -> Result<Text, AllocError>
-        requires long { 14 < length text.now }
-        requires short { length text.now ≤ 47 }
+        requires long { most_short < length text.now }
+        requires short { length text.now ≤ most_medium }
         ensures { IfOk result (λ t. t ≡ text.now) }
     {
         let mut bytes = [0u8; MOST_MEDIUM];
@@ -170,7 +172,7 @@ impl Text {
     // registers.
     #[inline(never)]
     fn long(alloc: Global, text: String) -> Result<Text, AllocError>
-        requires { 14 < length (string_bytes text) }
+        requires { most_short < length (string_bytes text) }
         ensures { IfOk result (λ t. t ≡ string_bytes text) }
     {
         let node = Node::Long(Arc::new(alloc, text)?);
@@ -184,7 +186,7 @@ impl Text {
     // fifths of the clone of a stream.
     #[inline(always)]
     pub(crate) fn copied_if_short(&self) -> Option<Text>
-        ensures { SomeIff result (length self.now ≤ 14) self.now }
+        ensures { SomeIff result (length self.now ≤ most_short) self.now }
     {
         match &self.node {
             Node::Short(len, kept) => Some(Text {

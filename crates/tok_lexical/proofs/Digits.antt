@@ -116,12 +116,6 @@ module _ (n : ℕ) (good : List ℕ → Bool) (Tail : List ℕ → Type 0) where
 pub digit_grows : (n : ℕ) (xs ys : List ℕ) → has_digit n xs ≡ true → has_digit n (xs ++ ys) ≡ true
 digit_grows n xs ys h = rw (list_any-append, h) refl
 
-pub none_decimal : (Tail : List ℕ → Type 0) (text : List ℕ) → starts_digit text ≡ false →
-    HasPrefix (IsRun 10 starts_digit Tail) text → ⊥
-none_decimal Tail text bad (piece, after, cut, ([], sf, f, a, g, k)) = false≢true g
-none_decimal Tail text bad (piece, after, cut, (d ∷ ds, sf, f, a, g, k)) =
-    false≢true (sym bad ∙ rw (cut, f) g)
-
 pub digits_start : (text rest digits : List ℕ) → Skips (is_digit_or_underscore 10) text digits
     rest → starts_digit text ≡ true → starts_digit digits ≡ true
 digits_start text [] [] s g = absurd (false≢true (rw s.cut at g))

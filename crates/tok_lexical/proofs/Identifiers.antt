@@ -18,8 +18,6 @@ use Rattle.tok_lexical.specs.Pieces.{IsLongestPrefix, HasPrefix, ReadsLongest, S
 use Rattle.tok_lexical.specs.Following.{starts_name}
 use Rattle.tok_lexical.specs.Words.{is_identifier_start, IsIdentifier, IsRawIdentifier, IsName}
 use Rattle.tok_lexical.specs.Words.{has_no_raw, is_raw_prefix}
-use Rattle.tok_lexical.specs.Scans.{IsAsciiTest}
-use Rattle.tok_lexical.proofs.Runs.{ascii_test}
 use Rattle.tok_lexical.proofs.Digits.{head_passes, tail_passes}
 use Rattle.std.proofs.lemmas.Str.{encodes-chars, encodes-IsAscii, chars-IsAscii, chars-nil}
 use Rattle.std.proofs.lemmas.Str.Ascii.{IsAscii-nil}
@@ -75,7 +73,7 @@ name_raw text rest piece t = record {
   ];
 }
 
-ascii_at : (t : List ℕ) (i : ℕ) → list_all (λ c. nat_lt c 128) t ≡ true → slice_index t i < 128
+pub ascii_at : (t : List ℕ) (i : ℕ) → list_all (λ c. nat_lt c 128) t ≡ true → slice_index t i < 128
 ascii_at [] i h = IsAscii-nil i
 ascii_at (x ∷ t) zero h = ltb-true x 128 (head_passes (λ c. nat_lt c 128) x t h)
 ascii_at (x ∷ t) (suc i) h = ascii_at t i (tail_passes (λ c. nat_lt c 128) x t h)
@@ -137,8 +135,8 @@ ascii_continues_low x h = let l : x ≤ 122 = search (rules, tests) in omega ari
 ascii_continues : (x : ℕ) → is_ascii_continue x ≡ true → is_xid_continue x ≡ true
 ascii_continues x h = is_xid_continue-ascii x (ascii_continues_low x h) ∙ h
 
-all_continue : (cs : List ℕ) → list_all is_ascii_continue cs ≡ true → list_all is_xid_continue cs
-    ≡ true
+pub all_continue : (cs : List ℕ) → list_all is_ascii_continue cs ≡ true
+    → list_all is_xid_continue cs ≡ true
 all_continue = pass_weaker is_ascii_continue is_xid_continue ascii_continues
 
 -- where no character beyond ASCII follows
@@ -164,6 +162,3 @@ skips_more_continues = skips_then is_ascii_continue is_xid_continue ascii_contin
 pub no_continue_beyond : (x : ℕ) → (x < 128 → ⊥) → is_ascii_continue x ≡ false
 no_continue_beyond x beyond =
     false_from_ne_true (is_ascii_continue x) (λ h. beyond (ascii_continues_low x h))
-
-pub continues_ascii_test : IsAsciiTest is_ascii_continue
-continues_ascii_test = ascii_test is_ascii_continue ascii_continues_low

@@ -7,7 +7,7 @@ pub mod Docs
 pub mod EscapedChars
 pub mod First
 pub mod Fits
-mod FloatTails
+pub mod FloatTails
 pub mod Fronts
 pub mod Heads
 pub mod Identifiers

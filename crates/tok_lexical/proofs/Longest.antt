@@ -104,7 +104,12 @@ skips_nothing text visible =
     visible_stops [] h = tt
     visible_stops (c ∷ cs) h = search (rules, tests)
 
-all_after : (p : ℕ → Bool) (xs ys : List ℕ) → list_all p (xs ++ ys) ≡ true → list_all p ys ≡ true
+pub front_nil : (xs ys : List ℕ) → [] ≡ xs ++ ys → xs ≡ []
+front_nil [] ys f = refl
+front_nil (x ∷ xs) ys f = cc
+
+pub all_after : (p : ℕ → Bool) (xs ys : List ℕ) → list_all p (xs ++ ys) ≡ true
+    → list_all p ys ≡ true
 all_after p xs ys h =
     (and_parts (list_all p xs) (list_all p ys) (rw (list_all-append p xs ys) at h)).1
 

@@ -10,16 +10,14 @@ use Rattle.tok_lexical.specs.Pieces.{HasPrefix, IsLongestPrefix, ReadsLongest, S
 use Rattle.tok_lexical.specs.Pieces.{is_neither}
 use Rattle.tok_lexical.specs.Comments.{IsPlain, Closes, done, nested, ended, plain, IsBlockComment}
 use Rattle.tok_lexical.specs.Comments.{is_not_line_feed}
+use Rattle.tok_lexical.proofs.EscapedChars.{heads}
 use Rattle.tok_lexical.proofs.Leads.{Leads, leads_run, leads_then}
-use Rattle.tok_lexical.proofs.Longest.{pass_weaker}
+use Rattle.tok_lexical.proofs.Longest.{front_nil, pass_weaker}
 
 -- a front of the start closes one comment just where what is left of it, at the rest, closes
 -- `depth`
 abbrev pub Stands : (start rest front : List ℕ) (depth : ℕ) → Type 0
 Stands start rest front depth = Leads (Closes 1) (Closes depth) start rest front
-
-heads : (a b : ℕ) (x y : List ℕ) → a ∷ x ≡ b ∷ y → a ≡ b
-heads a b x y e = cc
 
 open_more : (n : ℕ) (tail after rest : List ℕ) → 47 ∷ 42 ∷ rest ≡ tail ++ after →
     Closes (suc n) tail → (more : List ℕ) × (tail ≡ 47 ∷ 42 ∷ more) × (rest ≡ more ++ after)
@@ -140,10 +138,6 @@ pub open_none : (start rest front : List ℕ) (depth : ℕ) → 0 < depth →
 open_none start rest front depth l s e (piece, after, cut, c) =
     let a = s.forth piece after cut c in
     closes_some depth a.0 l (front_nil a.0 after (sym e ∙ a.2)) a.3
-  where
-    front_nil : (xs ys : List ℕ) → [] ≡ xs ++ ys → xs ≡ []
-    front_nil [] ys f = refl
-    front_nil (x ∷ xs) ys f = cc
 
 -- a slash that opens none
 pub step_slash : (start rest after front : List ℕ) (depth x : ℕ) → 0 < depth →

@@ -13,7 +13,7 @@ use Rattle.tok_lexical.specs.Raw.{EndsAt, closed, further, IsRaw, most_signs}
 use Rattle.tok_lexical.specs.Words.{IsSuffix}
 use Rattle.tok_lexical.proofs.Leads.{Leads, leads_run, leads_then}
 use Rattle.tok_lexical.proofs.NestedComments.{neither_of}
-use Rattle.tok_lexical.proofs.Longest.{IsFree, fronts}
+use Rattle.tok_lexical.proofs.Longest.{front_nil, IsFree, fronts}
 use Rattle.tok_lexical.proofs.EscapedChars.{all_stop}
 use Rattle.tok_lexical.proofs.Digits.{all_stops, head_passes, tail_passes}
 
@@ -105,10 +105,6 @@ stops_nil : (text : List ℕ) → Stops (is_neither 34 34) text →
     ((more : List ℕ) → text ≡ 34 ∷ more → ⊥) → text ≡ []
 stops_nil [] s a = refl
 stops_nil (c ∷ text) s a = let none = a text in grind arith
-
-front_nil : (xs ys : List ℕ) → [] ≡ xs ++ ys → xs ≡ []
-front_nil [] ys f = refl
-front_nil (x ∷ xs) ys f = cc
 
 -- where no quote is left, the string ends nowhere
 pub stands_none : (hashes start rest front : List ℕ) → Stands (34 ∷ hashes) start rest front →

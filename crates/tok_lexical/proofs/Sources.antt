@@ -46,19 +46,19 @@ last_found {taken = taken} d h q front after e k =
     let w = decides_unique d e in
     false≢true (rw (w.0, w.1) at (sym h) ∙ k)
 
+pub none_decides : (rules : List Rule) (text : List ℕ) (rule : Rule) (piece rest : List ℕ)
+    → NoneBefore rules text (length rules) → IsFirstFit text rules rule piece rest → ⊥
+none_decides [] text rule piece rest n d = elim d [ ]
+none_decides (r ∷ rules) text rule piece rest n (here t) =
+    n.none 0 r (omega arith) (omega arith) (piece, rest, t.cut, t.spelled)
+none_decides (r ∷ rules) text rule piece rest n (later m d) =
+    none_decides rules text rule piece rest
+    (record { none = λ j q k l. n.none (suc j) q (omega arith) (omega arith) }) d
+
 pub last_none : (text : List ℕ) → NoneBefore (rules_of (Source Edition2021)) text
     (length (rules_of (Source Edition2021))) → IsLast text
 last_none text n other front after d h = none_decides
-    (rules_of (Source Edition2021)) text other front
-    after n d
-  where
-    none_decides : (rules : List Rule) (text : List ℕ) (rule : Rule) (piece rest : List ℕ) →
-        NoneBefore rules text (length rules) → IsFirstFit text rules rule piece rest → ⊥
-    none_decides [] text rule piece rest n d = elim d [ ]
-    none_decides (r ∷ rules) text rule piece rest n (here t) =
-        n.none 0 r (omega arith) (omega arith) (piece, rest, t.cut, t.spelled)
-    none_decides (r ∷ rules) text rule piece rest n (later m d) = none_decides rules text rule
-        piece rest (record { none = λ j q k l. n.none (suc j) q (omega arith) (omega arith) }) d
+    (rules_of (Source Edition2021)) text other front after n d
 
 pub shorter_piece : (text rest : List ℕ) (rule : Rule) (taken : List ℕ) → IsUtf8 text →
     IsUtf8 rest → IsFirstFit (chars text) (rules_of (Source Edition2021)) rule taken (chars rest) →

@@ -1,6 +1,7 @@
 //! Functions that skip comments and recognize doc comments.
 ghost use Rattle.std.specs.Prelude.{◌≡◌, ℕ, ◌∷◌, ◌++◌, [], List, IfSome, true};
 ghost use Rattle.std.specs.Str.{chars, IsUtf8};
+ghost use Rattle.tok_lexical.specs.Ascii.{slash, star};
 ghost use Rattle.tok_lexical.specs.Pieces.{ReadsLongest, Skips};
 ghost use Rattle.tok_lexical.specs.Comments.{is_not_line_feed, IsLineComment, IsBlockComment, Closes, is_line_doc, is_block_doc, opens_line_doc, opens_block_doc};
 ghost use Rattle.tok_lexical.specs.Contents.{has_return};
@@ -183,7 +184,7 @@ pub fn breaks_line(piece: &str, after: &str) -> bool
 /// `piece` must be a whole block doc comment.
 pub fn block_doc_text(piece: &str) -> &str
     requires { (c : ℕ) × (front : List ℕ)
-        × (chars piece.now ≡ 47 ∷ 42 ∷ c ∷ (front ++ 42 ∷ 47 ∷ [])) }
+        × (chars piece.now ≡ slash ∷ star ∷ c ∷ (front ++ star ∷ slash ∷ [])) }
     ensures { chars result.now ≡ block_doc_text (chars piece.now) }
 {
     let text = past_first(past_first(past_first(piece)));

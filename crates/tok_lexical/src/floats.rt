@@ -4,7 +4,7 @@ ghost use Rattle.std.specs.Str.{chars, IsUtf8};
 ghost use Rattle.tok_lexical.specs.Pieces.{ReadsLongest};
 ghost use Rattle.tok_lexical.specs.Floats.{IsExponentDigits, IsSigned, IsExponent, IsFraction, IsFloatTail, IsFloat, IsPointed};
 
-use crate::numbers::{is_exponent, past_decimals, past_digits, past_number_suffix, starts_digit};
+use crate::numbers::{is_exponent, past_digits, past_number_suffix, past_some_decimals};
 use crate::text::{past_char, past_first};
 use crate::words::past_suffix;
 
@@ -55,10 +55,7 @@ pub fn past_fraction(text: &str) -> Option<&str>
     ensures tries { ReadsLongest IsFraction (chars text.now) result }
     ensures utf8 { IfSome result (λ rest. IsUtf8 rest.now) }
 {
-    if !starts_digit(text) {
-        return None;
-    }
-    let rest = past_decimals(text);
+    let rest = past_some_decimals(text)?;
     match past_exponent(rest) {
         Some(end) => Some(end),
         None => Some(past_number_suffix(rest, 10)),
@@ -84,10 +81,7 @@ pub fn past_float(text: &str) -> Option<&str>
     ensures tries { ReadsLongest IsFloat (chars text.now) result }
     ensures utf8 { IfSome result (λ rest. IsUtf8 rest.now) }
 {
-    if !starts_digit(text) {
-        return None;
-    }
-    let rest = past_decimals(text);
+    let rest = past_some_decimals(text)?;
     past_float_tail(rest)
 }
 
@@ -99,9 +93,6 @@ pub fn past_pointed(text: &str) -> Option<&str>
     ensures tries { ReadsLongest IsPointed (chars text.now) result }
     ensures utf8 { IfSome result (λ rest. IsUtf8 rest.now) }
 {
-    if !starts_digit(text) {
-        return None;
-    }
-    let rest = past_decimals(text);
+    let rest = past_some_decimals(text)?;
     past_char(rest, '.')
 }

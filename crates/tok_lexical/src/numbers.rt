@@ -1,5 +1,5 @@
 //! Functions that skip integers.
-ghost use Rattle.std.specs.Prelude.{◌≡◌, ℕ, ◌≤◌, List, IfSome, length, true};
+ghost use Rattle.std.specs.Prelude.{◌≡◌, ℕ, ◌≤◌, List, MatchOption, IfSome, length, true, false};
 ghost use Rattle.std.specs.Str.{chars, IsUtf8};
 ghost use Rattle.tok_lexical.specs.Pieces.{IsLongestPrefix, ReadsLongest, Skips};
 ghost use Rattle.tok_lexical.specs.Numbers.{base_mark, radix, is_digit_or_underscore, is_exponent, starts_digit, is_fraction, starts_number_suffix, IsNumberSuffix, IsNumber, has_digit, IsBased, IsDecimal, is_bare, is_malformed, is_float};
@@ -97,6 +97,23 @@ pub(crate) fn past_decimals(text: &str) -> &str
     }
 }
 
+/// Returns `text` without its leading decimal digits and underscores.
+///
+/// Returns `None` if `text` does not begin with a decimal digit.
+#[inline(always)]
+pub(crate) fn past_some_decimals(text: &str) -> Option<&str>
+    ensures digits { MatchOption result (starts_digit (chars text.now) ≡ false)
+        (λ rest. (starts_digit (chars text.now) ≡ true) × ((front : List ℕ)
+        × Skips (is_digit_or_underscore 10) (chars text.now) front (chars rest.now))) }
+    ensures utf8 { IfSome result (λ rest. IsUtf8 rest.now) }
+{
+    if starts_digit(text) {
+        Some(past_decimals(text))
+    } else {
+        None
+    }
+}
+
 fn starts_number_suffix(c: char, radix: u32) -> bool
     requires low { 2 ≤ radix }
     requires high { radix ≤ 16 }
@@ -176,10 +193,8 @@ pub fn past_decimal(text: &str) -> Option<&str>
     ensures tries { ReadsLongest IsDecimal (chars text.now) result }
     ensures utf8 { IfSome result (λ rest. IsUtf8 rest.now) }
 {
-    if !starts_digit(text) {
-        return None;
-    }
-    Some(past_number_suffix(past_decimals(text), 10))
+    let rest = past_some_decimals(text)?;
+    Some(past_number_suffix(rest, 10))
 }
 
 /// Returns `true` if `text` begins with `e` or `E`.

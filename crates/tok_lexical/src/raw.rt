@@ -1,7 +1,7 @@
 //! Functions that skip raw strings.
-ghost use Rattle.std.specs.Prelude.{◌≡◌, ℕ, ◌∷◌, ◌++◌, List, MatchOption, IfSome};
+ghost use Rattle.std.specs.Prelude.{◌≡◌, ℕ, ◌<◌, ◌∷◌, ◌++◌, List, MatchOption, IfSome};
 ghost use Rattle.std.specs.Str.{chars, IsUtf8};
-ghost use Rattle.tok_lexical.specs.Ascii.{lower_b, lower_c, lower_r, quote};
+ghost use Rattle.tok_lexical.specs.Ascii.{lower_r, quote};
 ghost use Rattle.tok_lexical.specs.Pieces.{After, ReadsLongest};
 ghost use Rattle.tok_lexical.specs.Private.Finds.{ReadsPrefix};
 ghost use Rattle.tok_lexical.specs.Raw.{EndsAt, IsRaw, IsRawString};
@@ -81,21 +81,18 @@ fn past_raw_text(text: &str) -> Option<&str>
     past_raw_rest(rest)
 }
 
-/// Returns the rest of `text` after a leading `br`, the rest of a raw string and its suffix.
-fn past_raw_bytes(text: &str) -> Option<&str>
-    ensures tries { ReadsLongest (After lower_b (After lower_r IsRaw)) (chars text.now) result }
+/// Returns the rest of `text` after a leading `letter` and `r`, the rest of a raw string and its
+/// suffix.
+///
+/// # Requires
+///
+/// `letter` must be an ASCII character.
+fn past_raw_by(text: &str, letter: char) -> Option<&str>
+    requires ascii { letter < 128 }
+    ensures tries { ReadsLongest (After letter (After lower_r IsRaw)) (chars text.now) result }
     ensures utf8 { IfSome result (λ rest. IsUtf8 rest.now) }
 {
-    let rest = past_char(text, 'b')?;
-    past_raw_text(rest)
-}
-
-/// Returns the rest of `text` after a leading `cr`, the rest of a raw string and its suffix.
-fn past_raw_c(text: &str) -> Option<&str>
-    ensures tries { ReadsLongest (After lower_c (After lower_r IsRaw)) (chars text.now) result }
-    ensures utf8 { IfSome result (λ rest. IsUtf8 rest.now) }
-{
-    let rest = past_char(text, 'c')?;
+    let rest = past_char(text, letter)?;
     past_raw_text(rest)
 }
 
@@ -109,7 +106,7 @@ pub fn past_raw_string(text: &str, contents: Contents) -> Option<&str>
 {
     match contents {
         Contents::Text => past_raw_text(text),
-        Contents::Bytes => past_raw_bytes(text),
-        Contents::C => past_raw_c(text),
+        Contents::Bytes => past_raw_by(text, 'b'),
+        Contents::C => past_raw_by(text, 'c'),
     }
 }

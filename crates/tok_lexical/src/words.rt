@@ -55,7 +55,7 @@ fn past_any_continues(text: &str) -> &str
 {
     let mut rest = text;
     while let Some((c, after)) = next_char(rest) {
-        // The first byte tells whether the character is ASCII, so `goes_on` need not compare it.
+        // The first byte tells sooner than the decoded character whether it is ASCII.
         let passes = if begins_beyond_ascii(rest) {
             is_xid_continue(c)
         } else {

@@ -31,9 +31,6 @@ first_of a b h = grind arith
 pub second_of : (a b : Bool) → (a && b) ≡ true → b ≡ true
 second_of a b h = grind arith
 
-pub both_true : (a b : Bool) → a ≡ true → b ≡ true → (a && b) ≡ true
-both_true a b p q = grind arith
-
 filled_group : (b : Bool) (inside kept rest : Forest) (s : Span)
     → has_trees (erase inside) ≡ b → erase kept ≡ erase inside → filled kept ≡ true
     → filled rest ≡ true → filled (cond b (tree (group None kept s) rest) rest) ≡ true

@@ -5,7 +5,8 @@ use Rattle.tok_leaves.specs.declared.span.Span.{Span}
 use Rattle.tok_leaves.specs.Leaves.{ident}
 use Rattle.tok_core.specs.Forest.{leaf}
 use Rattle.tok_buffer.specs.Place.{Place}
-use Rattle.tok_buffer.specs.Reads.{read_if, is_ident, is_ident_of, read_ident, read_word}
+use Rattle.tok_buffer.specs.Reads.{read_if, is_ident_of, read_ident, read_word}
+use Rattle.tok_core.specs.Kinds.{is_ident}
 
 pub word_of : (w : List ℕ → Bool) (q : Place) (text : List ℕ) (span : Span) (r : Place) →
     read_if is_ident q ≡ Some (leaf (ident text span) ∷ [], r) → read_if (is_ident_of w) q

@@ -2,7 +2,7 @@
 use Rattle.std.proofs.Common.{◌≡◌, ◌∙◌, ◌<◌, sym, ap, refl, ℕ, zero, suc, Bool, true}
 use Rattle.std.proofs.Common.{false, ◌&&◌, ◌||◌, List, [], ◌∷◌, get_or, length}
 use Rattle.std.proofs.Common.{inl, inr, arith, encode_utf8_all}
-use Rattle.std.specs.Prelude.{codes, nat_lt, slice_index, ◌==◌, Result, OnErr}
+use Rattle.std.specs.Prelude.{codes, nat_lt, ◌==◌, Result, OnErr}
 use Rattle.std.specs.List.{list_all}
 use Rattle.std.specs.Char.{is_ascii_alphabetic, is_ascii_alphanumeric}
 use Rattle.std.specs.Str.{chars, IsUtf8}
@@ -19,6 +19,7 @@ use Rattle.tok_core.proofs.Fronts.{none_appended}
 use Rattle.tok_types.specs.Printed.{word}
 use Rattle.tok_types.specs.Texts.{keywords, keyword_text, punctuations, punctuation_text}
 use Rattle.tok_types.specs.Texts.{punctuation_word}
+use Rattle.tok_lexical.proofs.Identifiers.{ascii_at}
 
 -- what holds of each text of a table and of the empty text holds of the text of any number
 of_each : (holds : List ℕ → Bool) (ts : List (List ℕ)) (k : ℕ) → holds [] ≡ true →
@@ -38,13 +39,8 @@ of_each_in holds (t ∷ ts) (suc k) low h = of_each_in holds ts k (omega arith)
 abbrev is_ascii : List ℕ → Bool
 is_ascii t = list_all (λ c. nat_lt c 128) t
 
-ascii_at : (t : List ℕ) → is_ascii t ≡ true → (i : ℕ) → slice_index t i < 128
-ascii_at [] h i = omega arith
-ascii_at (c ∷ t) h zero = ltb-true c 128 (and_parts (nat_lt c 128) (is_ascii t) h).0
-ascii_at (c ∷ t) h (suc i) = ascii_at t (and_parts (nat_lt c 128) (is_ascii t) h).1 i
-
 ascii_chars : (t : List ℕ) → is_ascii t ≡ true → chars t ≡ t
-ascii_chars t h = chars-IsAscii t (ascii_at t h)
+ascii_chars t h = chars-IsAscii t (λ i. ascii_at t i h)
 
 -- a plain identifier of ASCII
 abbrev is_ascii_continue : ℕ → Bool
@@ -68,7 +64,7 @@ word_is_identifier : (t : List ℕ) → is_ascii t ≡ true → is_word t ≡ tr
 word_is_identifier t a h =
     grind (arith, false≢true, and_parts, is_xid_start-ascii, ltb-true, continues)
 
-word-chars : (t : List ℕ) → is_ascii t ≡ true → is_word t ≡ true → IsIdentifier (chars t)
+pub word-chars : (t : List ℕ) → is_ascii t ≡ true → is_word t ≡ true → IsIdentifier (chars t)
 word-chars t a h = rw (ascii_chars t a) (word_is_identifier t a h)
 
 -- the text of a keyword of the table

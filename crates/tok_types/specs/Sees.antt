@@ -5,7 +5,8 @@ use Rattle.tok_core.specs.Forest.{Forest}
 use Rattle.tok_buffer.specs.EachRead.{first_if, first_keyword, first_lifetime, first_puncts}
 use Rattle.tok_buffer.specs.InFront.{first_group}
 use Rattle.tok_buffer.specs.Place.{Place}
-use Rattle.tok_buffer.specs.Reads.{any_text, is_ident, is_ident_of, is_literal, is_punct}
+use Rattle.tok_buffer.specs.Reads.{any_text, is_ident_of}
+use Rattle.tok_core.specs.Kinds.{is_ident, is_literal, is_punct}
 use Rattle.tok_buffer.specs.View.{erased_ahead}
 use Rattle.tok_types.specs.Texts.{accept_as_ident, keyword_text, punctuation_word}
 

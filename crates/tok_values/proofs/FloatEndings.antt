@@ -6,12 +6,13 @@ use Rattle.std.specs.Prelude.{◌==◌}
 use Rattle.std.proofs.lemmas.Bool.{false≢true, not-true, or_parts}
 use Rattle.std.proofs.lemmas.Bool.Decides.{nat_tests}
 use Rattle.tok_lexical.specs.Ascii.{minus}
-use Rattle.tok_lexical.specs.Floats.{IsExponent, IsExponentDigits, IsExponentSuffix, IsFloatTail}
+use Rattle.tok_lexical.specs.Floats.{IsExponent, IsExponentDigits, IsFloatTail}
 use Rattle.tok_lexical.specs.Floats.{IsFraction, IsSigned}
 use Rattle.tok_lexical.specs.Numbers.{IsDecimal, IsNumberSuffix, IsRun, has_digit}
 use Rattle.tok_lexical.specs.Numbers.{is_digit_or_underscore, starts_digit}
 use Rattle.tok_lexical.specs.Pieces.{Stops}
 use Rattle.tok_lexical.proofs.Digits.{head_passes, tail_passes}
+use Rattle.tok_lexical.proofs.FloatTails.{exponent_suffix_stops}
 use Rattle.tok_values.specs.Integers.{base_of}
 use Rattle.tok_values.specs.Suffixes.{FloatsHaveTheirSuffix, PointedHaveNoSuffix, after_digits}
 use Rattle.tok_values.specs.Suffixes.{after_exponent, after_fraction, after_sign, exponent_suffix}
@@ -29,14 +30,9 @@ sign_stays [] suffix all some = absurd (false≢true some)
 sign_stays (c ∷ digits) suffix all some =
     simp (no_sign c (head_passes (is_digit_or_underscore 10) c digits all))
 
-exponent_ends : (suffix : List ℕ) → IsExponentSuffix suffix →
-    Stops (is_digit_or_underscore 10) suffix
-exponent_ends [] h = h
-exponent_ends (c ∷ rest) h = h.0
-
 run_found : (piece : List ℕ) (run : IsExponentDigits piece) → after_digits 10 piece ≡ run.1
 run_found piece (digits, suffix, cut, all, some, ends) =
-    rw cut (digits_pass 10 digits suffix all (exponent_ends suffix ends))
+    rw cut (digits_pass 10 digits suffix all (exponent_suffix_stops suffix ends))
 
 signed_found : (piece : List ℕ) (signed : IsSigned piece) →
     after_digits 10 (after_sign piece) ≡ signed_suffix piece signed
@@ -44,7 +40,7 @@ signed_found piece (inl (more, cut, run)) = rw cut (run_found more run)
 signed_found piece (inr (inl (more, cut, run))) = rw cut (run_found more run)
 signed_found piece (inr (inr (digits, suffix, cut, all, some, ends))) =
     rw (cut, sign_stays digits suffix all some)
-    (digits_pass 10 digits suffix all (exponent_ends suffix ends))
+    (digits_pass 10 digits suffix all (exponent_suffix_stops suffix ends))
 
 exponent_found : (piece : List ℕ) (exponent : IsExponent piece) →
     after_exponent piece ≡ exponent_suffix piece exponent

@@ -8,7 +8,8 @@ use Rattle.std.proofs.lemmas.Bool.{false≢true}
 use Rattle.std.proofs.lemmas.Str.{chars-nil}
 use Rattle.tok_lexical.specs.Pieces.{After, begins_with}
 use Rattle.tok_lexical.specs.Words.{IsIdentifier, IsSuffix}
-use Rattle.tok_leaves.proofs.Names.{no_text, some_chars}
+use Rattle.tok_lexical.proofs.Texts.{some_left}
+use Rattle.tok_leaves.proofs.Names.{no_text}
 use Rattle.tok_values.specs.CStrings.{bytes_of, c_unit, names_byte}
 use Rattle.tok_values.specs.Strings.{InQuotes, MeansBy, unit}
 use Rattle.tok_values.specs.Suffixed.{IsCStrValue, IsStringBy}
@@ -24,13 +25,13 @@ no_suffix text false e h = absurd (false≢true h)
 pub no_rest : (text : List ℕ) (b : Bool) → IsUtf8 text → b ≡ (length text == 0) →
     MatchBool b (chars text ≡ []) (chars text ≡ [] → ⊥)
 no_rest text true u e = ap chars (no_text text (sym e)) ∙ chars-nil
-no_rest text false u e = some_chars text u (sym e)
+no_rest text false u e = some_left text u (sym e)
 
 pub some_suffix : (text : List ℕ) (b : Bool) → IsUtf8 text → (length text == 0) ≡ false →
     MatchBool b (IsIdentifier (chars text)) (IsIdentifier (chars text) → ⊥) →
     MatchBool b (IsSuffix (chars text)) (IsSuffix (chars text) → ⊥)
 some_suffix text true u some h = inr h
-some_suffix text false u some h = λ s. elim s [ inl e ↦ some_chars text u some e | inr i ↦ h i ]
+some_suffix text false u some h = λ s. elim s [ inl e ↦ some_left text u some e | inr i ↦ h i ]
 
 -- no other quotes are there
 module _ (Tail : List ℕ → Type 0) (unit_of : List ℕ → Option (List ℕ × List ℕ))

@@ -7,7 +7,8 @@ use Rattle.std.proofs.lemmas.Bool.{false≢true}
 use Rattle.std.proofs.lemmas.Str.{chars-IsAscii, chars-nil, encodes-IsAscii, encodes-chars}
 use Rattle.tok_leaves.specs.IntegerTypes.{integer_type_name}
 use Rattle.tok_leaves.specs.declared.integer_type.IntegerType.{IntegerType}
-use Rattle.tok_leaves.proofs.Names.{no_text, some_chars}
+use Rattle.tok_lexical.proofs.Texts.{some_left}
+use Rattle.tok_leaves.proofs.Names.{no_text}
 use Rattle.tok_values.specs.Floats.{IsFloatSuffix}
 use Rattle.tok_values.specs.Integers.{IsInteger, IsIntegerSuffix, base_of}
 use Rattle.tok_values.specs.Suffixes.{literal_suffix}
@@ -46,7 +47,7 @@ some_named text (Some type) true u some e same =
     inr (type, ap chars same ∙ chars-IsAscii (integer_type_name type) (type_ascii type))
 some_named text None false u some e other =
     λ s. elim s [
-      | inl none ↦ some_chars text u some none
+      | inl none ↦ some_left text u some none
       | inr (type, same) ↦ other type (same_bytes text (integer_type_name type) u (type_ascii type)
           same)
     ]

@@ -14,6 +14,7 @@ use Rattle.tok_lexical.specs.Strings.{line_end, no_unit, plain, simple, unit as 
 use Rattle.tok_lexical.specs.Words.{IsSuffix}
 use Rattle.tok_lexical.specs.declared.contents.Contents.{Contents}
 use Rattle.tok_lexical.specs.declared.contents.Contents.TheVariants.{Text, Bytes}
+use Rattle.tok_lexical.proofs.Longest.{all_after}
 use Rattle.tok_lexical.proofs.RawQuotes.{quotes_read}
 use Rattle.tok_values.specs.Strings.{IsStringValue, MeansBy, is_blank, more}
 use Rattle.tok_values.specs.Strings.{InQuotes, nothing, unit, without_blanks}
@@ -29,11 +30,6 @@ kept_after : (front rest : List ℕ) → has_bare_return (front ++ rest) ≡ fal
     has_bare_return rest ≡ false
 kept_after [] rest h = h
 kept_after (c ∷ front) rest h = kept_after front rest (or_parts _ _ h).1
-
-all_after : (p : ℕ → Bool) (front rest : List ℕ) → list_all p (front ++ rest) ≡ true →
-    list_all p rest ≡ true
-all_after p [] rest h = h
-all_after p (c ∷ front) rest h = all_after p front rest (and_parts (p c) _ h).1
 
 -- units are read so; a fact on a text and its meaning
 module _ (unit_of : List ℕ → Option (List ℕ × List ℕ)) (Fact : (text meaning : List ℕ) → Type 0)

@@ -26,18 +26,15 @@ use Rattle.tok_lexical.proofs.First.{decides_begun}
 use Rattle.tok_values.specs.Laws.{IsOnePiece}
 use Rattle.tok_values.specs.Strings.{IsStringValue, Means, more, nothing, unit}
 use Rattle.tok_values.proofs.Quoted.{one_byte, scalars-append}
+use Rattle.tok_lexical.proofs.Longest.{front_nil}
 
 -- a whole text is the longest front of itself
 pub whole : (S : List ℕ → Type 0) (text : List ℕ) → S text → IsLongestPrefix S text text []
 whole S text s = record {
   cut = sym (append-nil text);
   spelled = s;
-  longest = λ extra after e spelled. no_extra extra after e;
+  longest = λ extra after e spelled. front_nil extra after e;
 }
-  where
-    no_extra : (extra after : List ℕ) → [] ≡ extra ++ after → extra ≡ []
-    no_extra [] after e = refl
-    no_extra (x ∷ extra) after e = absurd (cc)
 
 -- no U+000D is in the text
 abbrev pub NoReturn : List ℕ → Type 0

@@ -48,7 +48,7 @@ kept-filled = record {
   out = λ n s c o p l ls h. filled-leave_group o p l ls h.1;
 }
 
-has-front : (a b : Forest) → has_trees a ≡ true → has_trees (concat a b) ≡ true
+pub has-front : (a b : Forest) → has_trees a ≡ true → has_trees (concat a b) ≡ true
 has-front a b h = rw (has_trees_concat a b, h)
 
 -- in a filled forest a place is at an end exactly where no visible tree is ahead

@@ -12,6 +12,7 @@ use Rattle.tok_buffer.specs.View.{visible_after}
 use Rattle.tok_buffer.proofs.View.Keeps.{IsKept, kept-leave_finished, kept-descend}
 use Rattle.tok_buffer.proofs.View.Moves.{IsMoved, moved-pass, Leads}
 use Rattle.tok_core.specs.Weight.{tree_weight}
+use Rattle.tok_buffer.proofs.Enclosing.{leave_group-delimiter}
 
 erased-leave_group : (o : Enclosing) (p : Forest) (l : Frame) (ls : List Frame)
     → erased_in (leave_group o p l ∷ ls) ≡ erased_in (l ∷ ls)
@@ -50,11 +51,6 @@ one_enclosing : (o : Enclosing) (p q a b : Forest) (ls : List Frame)
 one_enclosing o p q a b [] = refl
 one_enclosing o p q a b (l ∷ ls) = refl
 
-left_enclosing : (o : Enclosing) (p : Forest) (l : Frame) (ls : List Frame)
-    → frames_delimiter (leave_group o p l) ls ≡ frames_delimiter l ls
-left_enclosing whole p l ls = refl
-left_enclosing (in_group d span) p (frame o q a) ls = one_enclosing o _ q a a ls
-
 -- a view's scope, with these trees ahead, or none
 abbrev pub in_scope : View → Forest → View
 in_scope empty_view f = empty_view
@@ -76,7 +72,7 @@ module _ (g : Forest) (v : View) where
       into = λ n s c o p inside span f ls h.
           ap (λ d. seen (visible_after g s) d no_trees) (one_enclosing o p p f _ ls) ∙ h;
       out = λ n s c o p l ls h.
-          ap (λ d. seen (visible_after g s) d no_trees) (left_enclosing o p l ls) ∙ h;
+          ap (λ d. seen (visible_after g s) d no_trees) (leave_group-delimiter o p l ls) ∙ h;
     };
     past = λ n s c o p t f ls h.
         ap (λ d. seen (visible_after g s) d no_trees) (one_enclosing o (tree t p) p f _ ls) ∙ h;

@@ -8,7 +8,8 @@ use Rattle.tok_buffer.specs.Descent.{descend}
 use Rattle.tok_buffer.specs.EachRead.{Read, First}
 use Rattle.tok_buffer.specs.Place.{Enclosing, Frame, frame, Place, empty_place, at, front, pass}
 use Rattle.tok_buffer.specs.Reads.{read_if, read_then, place_after, read_tree, read_lifetime}
-use Rattle.tok_buffer.specs.Reads.{any_text, any_tree, skip}
+use Rattle.tok_buffer.specs.Reads.{any_text, skip}
+use Rattle.tok_core.specs.Kinds.{any_tree}
 use Rattle.tok_buffer.proofs.View.Keeps.{IsKept, kept-leave_finished}
 use Rattle.tok_buffer.proofs.View.Readings.{Reading, one, more, never, of_lifetime}
 use Rattle.std.proofs.lemmas.Bool.{cond_both}

@@ -7,7 +7,8 @@ use Rattle.tok_core.specs.Forest.{Tree, group, Forest}
 use Rattle.tok_buffer.specs.Descent.{descend}
 use Rattle.tok_buffer.specs.EachRead.{EachRead, First, Read, and_first, first_if, first_keyword}
 use Rattle.tok_buffer.specs.EachRead.{first_lifetime, first_puncts}
-use Rattle.tok_buffer.specs.Reads.{read_if, read_then, is_ident, is_ident_of, is_literal, is_punct}
+use Rattle.tok_buffer.specs.Reads.{read_if, read_then, is_ident_of}
+use Rattle.tok_core.specs.Kinds.{is_ident, is_literal, is_punct}
 use Rattle.tok_buffer.specs.Reads.{is_punct_of, is_joint_of, read_ident, read_word, read_keyword}
 use Rattle.tok_buffer.specs.Reads.{read_lifetime, read_literal, read_punct, read_punctuation}
 

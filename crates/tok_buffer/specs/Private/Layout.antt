@@ -92,11 +92,6 @@ abbrev pub laid : List Forest → List Entry
 laid [] = []
 laid (f ∷ s) = layout f ++ End 0 ∷ laid s
 
--- the places of the groups that are to come, if the first level begins at this place
-abbrev pub places : ℕ → List Forest → List ℕ
-places n [] = []
-places n (f ∷ s) = (n + weight f) ∷ places (n + weight f + 1) s
-
 -- the levels that are in the entries
 abbrev pub levels_in : List Entry → Levels
 levels_in xs = levels_of (stack_entries xs (no_trees ∷ []))

@@ -3,7 +3,7 @@
 use Rattle.std.specs.Prelude.{◌≡◌, Bool, true, false, if◌then◌else◌, ◌==◌, ◌&&◌, Option, Some, None, refl}
 use Rattle.std.specs.Prelude.{unwrap_or, is_some}
 use Rattle.std.proofs.Common.{ap, sym, ◌∙◌, eqb-true}
-use Rattle.std.proofs.lemmas.Bool.{false≢true}
+use Rattle.std.proofs.lemmas.Bool.{and_from, and_parts, false≢true}
 use Rattle.std.specs.Bool.{Decides}
 use Rattle.std.specs.declared.cmp.Ordering.{Ordering}
 use Rattle.std.specs.declared.cmp.Ordering.TheVariants.{Less, Equal}
@@ -13,15 +13,6 @@ use Rattle.std.specs.Ordering.{nat_cmp, ordering_reverse, is_eq, is_lt}
 use Rattle.std.specs.Option.{option_map}
 use Rattle.tok_buffer.specs.Order.{equal, order}
 use Rattle.tok_buffer.specs.Place.{Place, empty_place, at}
-
--- a conjunction is true if both parts are
-both : (a b : Bool) → a ≡ true → b ≡ true → (a && b) ≡ true
-both a b p q = ap (λ x. x && b) p ∙ q
-
--- both parts of a true conjunction are true
-parts : (a b : Bool) → (a && b) ≡ true → (a ≡ true) × (b ≡ true)
-parts true b h = (refl, h)
-parts false b h = absurd (false≢true h)
 
 -- an order that is asked for within one buffer only
 abbrev within : Bool → Ordering → Option Ordering
@@ -57,7 +48,7 @@ pub equal_equiv : IsEquivalence equal
 equal_equiv = record { refl = itself; symm = turned; congr = alike } where
   itself : (x : Place) → equal x x ≡ true
   itself empty_place = refl
-  itself (at n s c l ls) = both (n == n) (c == c) (nat_eq_equiv.refl n) (nat_eq_equiv.refl c)
+  itself (at n s c l ls) = and_from (n == n) (c == c) (nat_eq_equiv.refl n) (nat_eq_equiv.refl c)
 
   turned : (x y : Place) → equal x y ≡ equal y x
   turned empty_place empty_place = refl
@@ -73,7 +64,7 @@ equal_equiv = record { refl = itself; symm = turned; congr = alike } where
   alike (at n s c l ls) empty_place z h = absurd (false≢true h)
   alike (at n s c l ls) (at m t d k ks) empty_place h = refl
   alike (at n s c l ls) (at m t d k ks) (at o u e j js) h =
-      let p = parts (n == m) (c == d) h in
+      let p = and_parts (n == m) (c == d) h in
       ap (λ b. b && (c == e)) (nat_eq_equiv.congr n m o p.0)
       ∙ ap (λ b. (m == o) && b) (nat_eq_equiv.congr c d e p.1)
 
@@ -111,6 +102,6 @@ order_partial = record { antisymm = turned; trans = chain; matches_eq = ties; co
   alike (at n s c l ls) empty_place z h = absurd (false≢true h)
   alike (at n s c l ls) (at m t d k ks) empty_place h = refl
   alike (at n s c l ls) (at m t d k ks) (at o u e j js) h =
-      let p = parts (n == m) (c == d) h in
+      let p = and_parts (n == m) (c == d) h in
       ap (λ b. within b (nat_cmp c e)) (nat_eq_equiv.congr n m o p.0)
       ∙ ap (λ x. within (m == o) (nat_cmp x e)) (eqb-true c d p.1)

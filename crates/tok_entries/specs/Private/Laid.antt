@@ -7,10 +7,9 @@ use Rattle.tok_leaves.specs.declared.span.Origin.TheVariants.{CallSite, Source}
 use Rattle.tok_leaves.specs.declared.span.Span.{Span}
 use Rattle.tok_leaves.specs.Leaves.{Leaf, ident, punct, literal, leaf_span}
 use Rattle.tok_leaves.specs.Spans.{source}
-use Rattle.tok_core.specs.Building.{Levels, levels_of}
+use Rattle.tok_core.specs.Building.{Levels, levels_of, places}
 use Rattle.tok_core.specs.Code.{delimiter_of}
 use Rattle.tok_core.specs.Forest.{Tree, leaf, group, Forest, no_trees, tree}
-use Rattle.tok_core.specs.Weight.{weight}
 use Rattle.tok_entries.specs.declared.entry.Entry.{Entry}
 use Rattle.tok_entries.specs.Entries.{entries, texts}
 
@@ -38,11 +37,6 @@ laid at (f ∷ s) =
 abbrev pub laid_texts : List Forest → List ℕ
 laid_texts [] = []
 laid_texts (f ∷ s) = texts f ++ laid_texts s
-
--- the places of the openings that are to come, if the first level begins at this place
-abbrev pub places : ℕ → List Forest → List ℕ
-places n [] = []
-places n (f ∷ s) = (n + weight f) ∷ places (n + weight f + 1) s
 
 -- the span is a range of source 0
 abbrev pub is_in_source : Span → Bool

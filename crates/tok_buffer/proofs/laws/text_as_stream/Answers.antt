@@ -1,13 +1,12 @@
+use Rattle.std.proofs.Common.{arith}
+use Rattle.std.proofs.lemmas.Grind.{common_steps}
 use Rattle.std.specs.Str.{chars}
 use Rattle.tok_lexical.specs.declared.rule.Mode.TheVariants.{Plain}
-use Rattle.tok_buffer.specs.Buffer.{forest_of}
 use Rattle.tok_buffer.proofs.Reading.{kept_follows, same_reading}
 use Rattle.tok_buffer.proofs.laws.text_as_stream.Goals as goal
 
 pub returns-clause-lexed : goal.returns-clause-lexed
-returns-clause-lexed c =
-    kept_follows 0 Plain c.args.source (chars c.args.text.now) c.lex.result
-    (forest_of c.laid_out-laid.result) c.laid_out-laid.ensures.kept c.lex.ensures
+returns-clause-lexed c = grind (arith, common_steps)
 
 pub returns-clause-same : goal.returns-clause-same
 returns-clause-same c =

@@ -1,6 +1,7 @@
-use Rattle.std.proofs.Common.{◌≡◌, length, rules}
+use Rattle.std.proofs.lemmas.Grind.{common_steps}
+use Rattle.std.proofs.Common.{arith}
 use Rattle.std.specs.Str.{chars}
-use Rattle.tok_lexical.proofs.Appended.{appended, none_appended}
+use Rattle.tok_lexical.proofs.Appended.{appended}
 use Rattle.tok_leaves.proofs.Plain.{plain_ascii_test}
 use Rattle.tok_leaves.proofs.literal.push_plain.Goals as goal
 
@@ -8,10 +9,7 @@ pub split_run-requires : goal.split_run-requires
 split_run-requires c = record { ascii = plain_ascii_test }
 
 pub returns-then-is_empty-clause-value : goal.returns-then-is_empty-clause-value
-returns-then-is_empty-clause-value c =
-    let cut = c.split_run.ensures in
-    let none : length c.split_run.result.0.now ≡ 0 = search rules in
-    (chars c.split_run.result.0.now, cut.skips, none_appended _ _ cut.utf8.0 none)
+returns-then-is_empty-clause-value c = grind (arith, common_steps)
 
 pub returns-clause-value : goal.returns-clause-value
 returns-clause-value c =

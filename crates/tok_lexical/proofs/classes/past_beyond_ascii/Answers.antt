@@ -1,4 +1,5 @@
-use Rattle.std.proofs.Common.{◌∙◌, [], refl, sym}
+use Rattle.std.proofs.lemmas.Grind.{common_steps}
+use Rattle.std.proofs.Common.{◌∙◌, [], refl, sym, arith}
 use Rattle.tok_lexical.specs.Characters.{is_whitespace}
 use Rattle.tok_lexical.proofs.Longest.{skips_after}
 use Rattle.tok_lexical.proofs.WhiteSpace.{none_may_begin}
@@ -26,11 +27,4 @@ returns-in_default-clause-skips c = (
 )
 
 pub returns-in_default-2-clause-skips : goal.returns-in_default-2-clause-skips
-returns-in_default-2-clause-skips c = (
-  [],
-  record {
-    cut = refl;
-    pass = refl;
-    stops = rw (rw c.in_default.is at c.next_char.ensures.chars) tt;
-  },
-)
+returns-in_default-2-clause-skips c = grind (arith, common_steps)

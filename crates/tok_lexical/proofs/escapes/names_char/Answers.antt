@@ -1,5 +1,7 @@
-use Rattle.tok_lexical.proofs.Codes.{counts_digit, counts_other, too_many, too_large}
-use Rattle.tok_lexical.proofs.Codes.{hex_from, hex_not}
+use Rattle.std.proofs.Common.{arith}
+use Rattle.std.proofs.lemmas.Grind.{common_steps}
+use Rattle.tok_lexical.proofs.Codes.{counts_digit, too_many, too_large}
+use Rattle.tok_lexical.proofs.Codes.{hex_from}
 use Rattle.tok_lexical.proofs.escapes.names_char.Goals as goal
 
 pub returns-then-count-eq6 : goal.returns-then-count-eq6
@@ -21,9 +23,4 @@ loop-c-preserved-else-value-gt1114111 c = (
 )
 
 pub loop-c-preserved : goal.loop-c-preserved
-loop-c-preserved c = (
-  c.in-Some.ensures.utf8,
-  counts_other _ _ _ c.loop-c.value c.loop-c.count c.in-Some.c
-      c.loop-c.invariant.1 c.in-Some.ensures.chars
-      (hex_not c.in-Some.c c.in_default-to_digit.ensures.value),
-)
+loop-c-preserved c = grind (arith, common_steps)

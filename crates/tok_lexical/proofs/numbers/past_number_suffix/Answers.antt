@@ -1,16 +1,11 @@
-use Rattle.std.proofs.Common.{◌∙◌, [], sym}
-use Rattle.tok_lexical.proofs.Digits.{takes_no_suffix, no_suffix_start, no_suffix_word}
+use Rattle.std.proofs.lemmas.Grind.{common_steps}
+use Rattle.std.proofs.Common.{◌∙◌, [], sym, arith}
+use Rattle.tok_lexical.proofs.Digits.{takes_no_suffix, no_suffix_start}
 use Rattle.tok_lexical.proofs.Digits.{takes_number_suffix}
-use Rattle.tok_lexical.proofs.Identifiers.{no_name}
 use Rattle.tok_lexical.proofs.numbers.past_number_suffix.Goals as goal
 
 pub returns-then-not-starts_name : goal.returns-then-not-starts_name
-returns-then-not-starts_name c = (
-  [],
-  takes_no_suffix c.args.radix _
-      (no_suffix_word c.args.radix _
-      (no_name _ (sym c.starts_name.ensures ∙ c.if-not-starts_name.true))),
-)
+returns-then-not-starts_name c = grind (arith, common_steps)
 
 pub returns-then-not-starts_number_suffix : goal.returns-then-not-starts_number_suffix
 returns-then-not-starts_number_suffix c = (

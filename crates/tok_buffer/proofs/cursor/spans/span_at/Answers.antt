@@ -1,9 +1,10 @@
-use Rattle.std.proofs.Common.{◌≡◌, ◌∙◌, sym, ap}
+use Rattle.std.proofs.lemmas.Grind.{common_steps}
+use Rattle.std.proofs.Common.{◌≡◌, ◌∙◌, sym, ap, arith}
 use Rattle.tok_buffer.specs.Moves.{frames_at}
 use Rattle.tok_buffer.specs.Private.Layout.{entry_here, entry_of, leaf_in}
 use Rattle.tok_buffer.specs.declared.entry.Entry.TheVariants.{End}
 use Rattle.tok_buffer.proofs.Enclosing.{enclosing_entry}
-use Rattle.tok_buffer.proofs.Befores.{end_current, leaf_current, group_current}
+use Rattle.tok_buffer.proofs.Befores.{end_current, leaf_current}
 use Rattle.tok_buffer.proofs.cursor.spans.span_at.Goals as goal
 
 pub overflow_sub-position : goal.overflow_sub-position
@@ -17,9 +18,7 @@ returns-in-Leaf c = c.span.ensures
     (leaf_in c.in-Leaf.leaf) (sym c.entry.ensures ∙ c.held.ensures ∙ ap entry_of c.in-Leaf.is)
 
 pub returns-in-Group : goal.returns-in-Group
-returns-in-Group c = group_current (frames_at c.args.buffer.now.forest c.args.position).0
-    c.in-Group.group.now c.in-Group.field-1 (sym c.entry.ensures ∙ c.held.ensures
-    ∙ ap entry_of c.in-Group.is)
+returns-in-Group c = grind (arith, common_steps)
 
 pub returns-in-End : goal.returns-in-End
 returns-in-End c =

@@ -2,7 +2,7 @@ use Rattle.std.proofs.Common.{◌<◌, ap, arith, length, rules, string_bytes}
 use Rattle.tok_leaves.specs.Spans.{opening_span, closing_span}
 use Rattle.tok_entries.specs.Private.Laid.{levels_in}
 use Rattle.tok_entries.proofs.Laid.{Left, close_kept, close_shown, left_before, leaves_level}
-use Rattle.tok_entries.proofs.Laid.{places_length}
+use Rattle.tok_core.proofs.Levels.{places_length}
 use Rattle.tok_entries.proofs.builder.EntryWriterBuild.close.Goals as goal
 use Rattle.tok_entries.proofs.builder.EntryWriterBuild.close.Goals.{In-Some}
 
