@@ -205,6 +205,8 @@ impl<'a> ParseBuffer<'a> {
     }
 
     // Returns the error that this text was expected, as `error` does.
+    //
+    // Beside `refuse`, whose words would have to be joined first: one allocation more.
     #[inline(never)]
     pub(crate) fn refuse_text(&self, text: &str) -> Fault
         ensures { Refuses (refused_at self.now (expected (in_backquotes text.now))) result }
