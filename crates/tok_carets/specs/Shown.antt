@@ -19,9 +19,13 @@ use Rattle.tok_carets.specs.declared.source.Source.{Source}
 abbrev pub words_alone : (level words : List ℕ) → List ℕ
 words_alone level words = level ++ (codes ": " ++ (words ++ codes "\n"))
 
+-- `^`
+abbrev pub caret : ℕ
+caret = 94
+
 -- at least one caret
 abbrev pub carets : List ℕ → List ℕ
-carets [] = codes "^"
+carets [] = caret ∷ []
 carets (c ∷ text) = c ∷ text
 
 -- spaces as wide as the number of the line
@@ -49,7 +53,7 @@ drawn level words name line head tail marked =
     heading level words (gutter line) name
     ++ (place line (length head + 1) (gutter line)
     ++ (row line (flat_map shown_character head) (flat_map shown_character tail) (gutter line)
-    ++ (marks space head ++ (carets (marks 94 marked) ++ codes "\n"))))
+    ++ (marks space head ++ (carets (marks caret marked) ++ codes "\n"))))
 
 -- the words and the line between these two parts of a text, with carets under so many bytes after
 abbrev pub IsPlaced : (level words name before after : List ℕ) → (bytes : ℕ) → List ℕ → Type 0

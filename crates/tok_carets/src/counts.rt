@@ -41,10 +41,10 @@ pub fn line_feeds(bytes: &[u8]) -> usize
 // Returns how many line feeds are in so many times 64 bytes, from a place on. Each lane counts its
 // own, in a byte.
 fn in_steps(bytes: &[u8], from: usize, steps: usize) -> usize
-    requires within { from + 64 * steps ≤ length bytes.now }
-    requires few { steps ≤ 255 }
+    requires within { from + LANES * steps ≤ length bytes.now }
+    requires few { steps ≤ MOST }
     ensures { count_by (is_byte line_feed) (take from bytes.now) + result
-        ≡ count_by (is_byte line_feed) (take (from + 64 * steps) bytes.now) }
+        ≡ count_by (is_byte line_feed) (take (from + LANES * steps) bytes.now) }
 {
     let mut counts = u8x64::splat(0);
     let mut done = 0;
@@ -60,9 +60,9 @@ fn in_steps(bytes: &[u8], from: usize, steps: usize) -> usize
 
 // Returns how many line feeds are in 16 bytes, from a place on.
 fn in_few(bytes: &[u8], at: usize) -> usize
-    requires { at + 16 ≤ length bytes.now }
+    requires { at + FEW ≤ length bytes.now }
     ensures { count_by (is_byte line_feed) (take at bytes.now) + result
-        ≡ count_by (is_byte line_feed) (take (at + 16) bytes.now) }
+        ≡ count_by (is_byte line_feed) (take (at + FEW) bytes.now) }
 {
     let lanes = u8x16::from_slice(&bytes[at..]);
     let feeds = lanes.simd_eq(u8x16::splat(b'\n'));

@@ -6,7 +6,7 @@ ghost use Rattle.tok_lexical.specs.Ascii.{space};
 ghost use Rattle.tok_leaves.specs.Spans.{range};
 ghost use Rattle.std.specs.Str.{chars};
 ghost use Rattle.tok_buffer.specs.Messages.{each_message};
-ghost use Rattle.tok_carets.specs.Shown.{Shows, ShowsEach, ShowsLex, carets, drawn, gutter, heading, place, row, words_alone};
+ghost use Rattle.tok_carets.specs.Shown.{Shows, ShowsEach, ShowsLex, caret, carets, drawn, gutter, heading, place, row, words_alone};
 ghost use Rattle.tok_carets.specs.Lines.{IsLastLine, line_number, marks, shown_character};
 
 use crate::index::LineIndex;
@@ -261,7 +261,7 @@ fn push_row(to: &mut String, line: &str, head: &str, tail: &str) -> Result<(), A
 // Appends the carets under a part of a line.
 fn push_carets(to: &mut String, marked: &str) -> Result<(), AllocError>
     ensures { OnOk result (string_bytes to.new
-        ≡ string_bytes to.old ++ carets (marks 94 (chars marked.now))) }
+        ≡ string_bytes to.old ++ carets (marks caret (chars marked.now))) }
 {
     let before = to.len();
     push_marks(to, marked, '^')?;
