@@ -17,24 +17,14 @@ mod own;
 mod values;
 mod visible;
 
-use anyhow::{Context, Result};
+use anyhow::Result;
 use std::alloc::Global;
-use std::io;
 use test_outcomes::escapes::unescaped;
+use test_outcomes::lines::print_answers;
 use test_outcomes::said;
 
 fn main(rt: HostRuntime) -> Result<()> {
-    let alloc = rt.alloc();
-    let input = io::read_to_string(alloc, rt.stdin())?;
-    for line in input.lines() {
-        if line.starts_with('#') {
-            println!(rt; "{line}")?;
-        } else {
-            let answer = answer_to(alloc, line).context("a line is no case")?;
-            println!(rt; "{answer}")?;
-        }
-    }
-    Ok(())
+    print_answers(&rt, answer_to)
 }
 
 // Returns what is printed for a line, or `None` if it is no case or an allocation fails.
