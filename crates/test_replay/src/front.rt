@@ -4,12 +4,14 @@ ghost use Rattle.syn_tokens.specs.TreeLaws.{followed_by};
 use std::alloc::{AllocError, AllocGlobal, Global};
 use std::process::Abort;
 use syn_tokens::buffer::{Cursor, TokenBuffer};
+use syn_tokens::carets::LineColumn;
+use syn_tokens::ext::IntegerFault;
 use syn_tokens::laws::{parses_go_on, reads_go_on, reads_keep_scope, writes_follow_writes};
 use syn_tokens::parse::{Parse, ParseStream, Parser};
-use syn_tokens::punctuated::Punctuated;
+use syn_tokens::punctuated::{PairsFault, Punctuated};
 use syn_tokens::{
-    Delimiter, Error, Ident, Span, ToTokens, TokenStream, TokenTree, lex, parenthesized, parse,
-    token,
+    Delimiter, Edition, Error, Ident, Kind, Look, Separator, Span, ToTokens, TokenStream,
+    TokenTree, lex, parenthesized, parse, token,
 };
 
 /// `pub NAME(FIRST, SECOND, ..)`, as a user of the library would write it.
@@ -265,4 +267,23 @@ fn all_written(rt: &(impl Abort + AllocGlobal), rows: &[(&str, &str)]) {
 #[test]
 fn writes_a_value_by_one_crate(rt: HostRuntime) {
     all_written(&rt, &[("a", "a ;")]);
+}
+
+// Returns `true` if two values differ.
+fn differ<T: PartialEq + Drop>(left: T, right: T) -> bool {
+    left != right
+}
+
+#[test]
+fn tells_values_apart(rt: HostRuntime) {
+    let place = LineColumn { line: 1, column: 1 };
+    assert!(rt; differ(place, LineColumn { line: 2, column: 1 }));
+    assert!(rt; differ(place, LineColumn { line: 1, column: 2 }));
+    assert!(rt; differ(IntegerFault::NotInteger, IntegerFault::TooLarge));
+    assert!(rt; differ(PairsFault::AfterEnd, PairsFault::Memory));
+    assert!(rt; differ(Edition::Edition2021, Edition::Edition2024));
+    assert!(rt; differ(Kind::Ident, Kind::Literal));
+    assert!(rt; differ(Look::Kind(Kind::Ident), Look::Kind(Kind::Literal)));
+    assert!(rt; differ(Look::Paren, Look::Brace));
+    assert!(rt; differ(Separator::Comma, Separator::Semi));
 }
