@@ -12,6 +12,9 @@ pub struct Kept {
 }
 
 // From how many unused entries and bytes on the room is given back: in both some 4 KiB.
+//
+// The caller may keep the memory for long. So the library gives room of long texts back sooner than
+// `tok_core::room::fitted` does, and keeps what it has if that allocation fails.
 const SPARE_ENTRIES: usize = 85;
 
 const SPARE_BYTES: usize = 4096;
